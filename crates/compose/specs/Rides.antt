@@ -1,0 +1,114 @@
+-- "Rides to reckon by hand": P1 to P12 of document 01, one table and one statement over the definitions. The two arrays
+-- are lent with one place more than is needed, so that the row says too that the last place stays. Assumes nothing.
+use mathlib.Core.Path.{_≡_, refl}
+use mathlib.Core.List.{List, [], _∷_, _++_, map}
+use Prim.Native.Nat.{ℕ, _+_}
+use lib.IntN.{ℤ, pos, negℤ}
+use lib.ListN.{length, replicate}
+use Rattle.whole.specs.Sum.{sumOver, sumTo}
+use Rattle.whole.specs.Choose.{choose}
+use Rattle.whole.specs.Round.{nearest, floorZ}
+use Rattle.units.specs.Bounds.{beyondTravel, beyondPath}
+use Rattle.request.specs.declared.Answer.{Answer}
+use Rattle.request.specs.Request.{Request, byForm, degree, longest, surfaceCount, pathCount, numbers}
+use Rattle.request.specs.Refusal.{answer, refuseIf, least, notKind, notDegree, notSurface, notPath, notRoom, notValue, notParameter, notBalance, valuePlace, parameterPlace, balancePlace, uneven, isNumber}
+use Rattle.net.specs.Net.{rowStart, placeOf, netOf, pathNumber}
+use Rattle.net.specs.Blossom.{step, blossom}
+use Rattle.net.specs.Composed.{overChoices, total, weight, arguments, numerator, denominator, point}
+use Rattle.compose.specs.Afterwards.{listBelow, afterwards, exactAfter, pointsAfter}
+
+pub record Ride : Type 0 where
+  pub request : Request
+  pub numerators : List ℤ
+  pub points : List ℤ
+
+-- whole numbers from 0 up, and one below 0
+unfoldable pub whole : List ℕ → List ℤ
+whole l = map pos l
+
+unfoldable pub below : ℕ → ℤ
+below n = negℤ (pos n)
+
+-- a request of each form: its degrees, N, the control values and the path numbers
+unfoldable pub curve : ℕ → ℕ → List ℤ → List ℤ → Request
+curve m N surface path = record { form = 1; first = m; second = 0; N = N; surface = surface; path = path }
+
+unfoldable pub tensor : ℕ → ℕ → ℕ → List ℤ → List ℤ → Request
+tensor l m N surface path = record { form = 2; first = l; second = m; N = N; surface = surface; path = path }
+
+unfoldable pub triangle : ℕ → ℕ → List ℤ → List ℤ → Request
+triangle n N surface path = record { form = 3; first = n; second = 0; N = N; surface = surface; path = path }
+
+unfoldable pub ride : Request → List ℤ → List ℤ → Ride
+ride request numerators points = record { request = request; numerators = numerators; points = points }
+
+unfoldable pub rides : List Ride
+rides =
+    -- P1
+    ride (curve 1 1 (whole (0 ∷ 100 ∷ [])) (whole (0 ∷ 1024 ∷ [])))
+    (whole (0 ∷ 102400 ∷ []))
+    (whole (0 ∷ 100 ∷ []))
+    -- P2
+    ∷ ride (curve 2 1 (pos 2 ∷ pos 3 ∷ below 2 ∷ []) (whole (0 ∷ 1024 ∷ [])))
+    (pos 2097152 ∷ pos 6291456 ∷ below 2097152 ∷ [])
+    (pos 2 ∷ pos 3 ∷ below 2 ∷ [])
+    -- P3
+    ∷ ride (curve 2 1 (pos 2 ∷ pos 3 ∷ below 2 ∷ []) (whole (0 ∷ 512 ∷ [])))
+    (whole (2097152 ∷ 5242880 ∷ 1572864 ∷ []))
+    (whole (2 ∷ 3 ∷ 2 ∷ []))
+    -- P4
+    ∷ ride (curve 2 1 (below 2 ∷ below 3 ∷ pos 2 ∷ []) (whole (0 ∷ 512 ∷ [])))
+    (below 2097152 ∷ below 5242880 ∷ below 1572864 ∷ [])
+    (below 2 ∷ below 2 ∷ below 1 ∷ [])
+    -- P5
+    ∷ ride (curve 1 2 (whole (0 ∷ 100 ∷ [])) (whole (0 ∷ 1024 ∷ 0 ∷ [])))
+    (whole (0 ∷ 204800 ∷ 0 ∷ []))
+    (whole (0 ∷ 100 ∷ 0 ∷ []))
+    -- P6
+    ∷ ride (curve 2 2 (whole (0 ∷ 0 ∷ 600 ∷ [])) (whole (0 ∷ 512 ∷ 1024 ∷ [])))
+    (whole (0 ∷ 0 ∷ 629145600 ∷ 1258291200 ∷ 629145600 ∷ []))
+    (whole (0 ∷ 0 ∷ 100 ∷ 300 ∷ 600 ∷ []))
+    -- P7
+    ∷ ride (tensor 1 1 1 (whole (0 ∷ 0 ∷ 0 ∷ 400 ∷ [])) (whole (0 ∷ 0 ∷ 1024 ∷ 1024 ∷ [])))
+    (whole (0 ∷ 0 ∷ 419430400 ∷ []))
+    (whole (0 ∷ 0 ∷ 400 ∷ []))
+    -- P8
+    ∷ ride (tensor 1 1 1 (whole (0 ∷ 0 ∷ 0 ∷ 400 ∷ [])) (whole (0 ∷ 1024 ∷ 1024 ∷ 0 ∷ [])))
+    (whole (0 ∷ 419430400 ∷ 0 ∷ []))
+    (whole (0 ∷ 200 ∷ 0 ∷ []))
+    -- P9
+    ∷ ride (triangle 1 0 (whole (10 ∷ 20 ∷ 30 ∷ [])) (whole (512 ∷ 256 ∷ 256 ∷ [])))
+    (whole (23040 ∷ []))
+    (whole (23 ∷ []))
+    -- P10
+    ∷ ride (curve 0 3 (whole (7 ∷ [])) (whole (0 ∷ 0 ∷ 0 ∷ 0 ∷ [])))
+    (whole (7 ∷ []))
+    (whole (7 ∷ []))
+    -- P11
+    ∷ ride (curve 4 0 (whole (0 ∷ 0 ∷ 0 ∷ 0 ∷ 4096 ∷ [])) (whole (1024 ∷ [])))
+    (whole (4503599627370496 ∷ []))
+    (whole (4096 ∷ []))
+    -- P12
+    ∷ ride (curve 4 3 (whole (4096 ∷ 4096 ∷ 4096 ∷ 4096 ∷ 4096 ∷ [])) (whole (0 ∷ 0 ∷ 1024 ∷ 1024 ∷ [])))
+    (whole (4503599627370496 ∷ 54043195528445952 ∷ 297237575406452736 ∷ 990791918021509120 ∷ 2229281815548395520 ∷ 3566850904877432832 ∷ 4161326055690338304 ∷ 3566850904877432832 ∷ 2229281815548395520 ∷ 990791918021509120 ∷ 297237575406452736 ∷ 54043195528445952 ∷ 4503599627370496 ∷ []))
+    (whole (4096 ∷ 4096 ∷ 4096 ∷ 4096 ∷ 4096 ∷ 4096 ∷ 4096 ∷ 4096 ∷ 4096 ∷ 4096 ∷ 4096 ∷ 4096 ∷ 4096 ∷ []))
+    ∷ []
+
+-- what a lent place holds that must stay
+unfoldable pub mark : ℤ
+mark = below 7
+
+-- what the definitions give for a ride: the answer and both arrays afterwards
+unfoldable pub worked : Ride → Answer × List ℤ × List ℤ
+worked r =
+    let room = length (r .points) + 1 in
+    let lent = replicate room mark in
+    (answer (r .request) room room, exactAfter (r .request) lent lent, pointsAfter (r .request) lent lent)
+
+-- what document 01 says of it: accepted, with these numerators and these points, and the last place as it was
+unfoldable pub stated : Ride → Answer × List ℤ × List ℤ
+stated r = (record { number = 0; place = 0; count = length (r .points) }, r .numerators ++ (mark ∷ []), r .points ++ (mark ∷ []))
+
+pub as-stated : map worked rides ≡ map stated rides
+unfolding rides ride whole below curve tensor triangle mark worked stated exactAfter pointsAfter afterwards listBelow answer refuseIf least notKind notDegree notSurface notPath notRoom notValue notParameter notBalance valuePlace parameterPlace balancePlace beyondTravel beyondPath uneven isNumber byForm degree longest surfaceCount pathCount numbers rowStart placeOf netOf pathNumber step blossom overChoices total weight arguments numerator denominator point nearest floorZ sumTo sumOver choose
+as-stated = refl

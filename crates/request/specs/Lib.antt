@@ -1,0 +1,3 @@
+-- Document 01's request and what is answered to it, as definitions that compute. Assumes nothing.
+pub mod Request
+pub mod Refusal

@@ -1,0 +1,7 @@
+-- The binomial coefficient n over k, by Pascal's recursion. Assumes nothing.
+use Prim.Native.Nat.{ℕ, zero, suc, _+_}
+
+unfoldable pub choose : ℕ → ℕ → ℕ
+choose n zero = 1
+choose zero (suc k) = 0
+choose (suc n) (suc k) = choose n k + choose n (suc k)

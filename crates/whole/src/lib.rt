@@ -1,0 +1,2 @@
+// Whole numbers.
+pub struct Num(pub i64);
