@@ -10,8 +10,9 @@ use Rattle.whole.specs.Choose.{choose}
 use Rattle.whole.specs.Round.{nearest, floorZ}
 use Rattle.units.specs.Bounds.{beyondTravel, beyondPath}
 use Rattle.request.specs.declared.Answer.{Answer}
-use Rattle.request.specs.Request.{Request, byForm, degree, longest, surfaceCount, pathCount, numbers}
-use Rattle.request.specs.Refusal.{answer, refuseIf, least, notKind, notDegree, notSurface, notPath, notRoom, notValue, notParameter, notBalance, valuePlace, parameterPlace, balancePlace, uneven, isNumber}
+use Rattle.request.specs.Head.{byForm, degree, longest, surfaceCount, pathCount, numbers}
+use Rattle.request.specs.Request.{Request}
+use Rattle.request.specs.Refusal.{answer, refused, accepted, least, notKind, notDegree, notSurface, notPath, notRoom, notValue, notParameter, notBalance, valuePlace, parameterPlace, balancePlace, uneven, isNumber}
 use Rattle.net.specs.Net.{rowStart, placeOf, netOf, pathNumber}
 use Rattle.net.specs.Blossom.{step, blossom}
 use Rattle.net.specs.Composed.{overChoices, total, weight, arguments, numerator, denominator, point}
@@ -31,13 +32,13 @@ below n = negℤ (pos n)
 
 -- a request of each form: its degrees, N, the control values and the path numbers
 unfoldable pub curve : ℕ → ℕ → List ℤ → List ℤ → Request
-curve m N surface path = record { form = 1; first = m; second = 0; N = N; surface = surface; path = path }
+curve m N surface path = record { head = record { form = 1; first = m; second = 0; N = N }; surface = surface; path = path }
 
 unfoldable pub tensor : ℕ → ℕ → ℕ → List ℤ → List ℤ → Request
-tensor l m N surface path = record { form = 2; first = l; second = m; N = N; surface = surface; path = path }
+tensor l m N surface path = record { head = record { form = 2; first = l; second = m; N = N }; surface = surface; path = path }
 
 unfoldable pub triangle : ℕ → ℕ → List ℤ → List ℤ → Request
-triangle n N surface path = record { form = 3; first = n; second = 0; N = N; surface = surface; path = path }
+triangle n N surface path = record { head = record { form = 3; first = n; second = 0; N = N }; surface = surface; path = path }
 
 unfoldable pub ride : Request → List ℤ → List ℤ → Ride
 ride request numerators points = record { request = request; numerators = numerators; points = points }
@@ -110,5 +111,5 @@ unfoldable pub stated : Ride → Answer × List ℤ × List ℤ
 stated r = (record { number = 0; place = 0; count = length (r .points) }, r .numerators ++ (mark ∷ []), r .points ++ (mark ∷ []))
 
 pub as-stated : map worked rides ≡ map stated rides
-unfolding rides ride whole below curve tensor triangle mark worked stated exactAfter pointsAfter afterwards listBelow answer refuseIf least notKind notDegree notSurface notPath notRoom notValue notParameter notBalance valuePlace parameterPlace balancePlace beyondTravel beyondPath uneven isNumber byForm degree longest surfaceCount pathCount numbers rowStart placeOf netOf pathNumber step blossom overChoices total weight arguments numerator denominator point nearest floorZ sumTo sumOver choose
+unfolding rides ride whole below curve tensor triangle mark worked stated exactAfter pointsAfter afterwards listBelow answer refused accepted least notKind notDegree notSurface notPath notRoom notValue notParameter notBalance valuePlace parameterPlace balancePlace beyondTravel beyondPath uneven isNumber byForm degree longest surfaceCount pathCount numbers rowStart placeOf netOf pathNumber step blossom overChoices total weight arguments numerator denominator point nearest floorZ sumTo sumOver choose
 as-stated = refl

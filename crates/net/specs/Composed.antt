@@ -9,7 +9,8 @@ use lib.ListN.{take, drop}
 use Rattle.whole.specs.Sum.{sumTo}
 use Rattle.whole.specs.Choose.{choose}
 use Rattle.whole.specs.Round.{nearest}
-use Rattle.request.specs.Request.{Request, byForm, degree, longest}
+use Rattle.request.specs.Head.{byForm, degree, longest}
+use Rattle.request.specs.Request.{Request}
 use Rattle.net.specs.Net.{Net, netOf, pathNumber}
 use Rattle.net.specs.Blossom.{Argument, alongU, alongV, within, blossom}
 
@@ -32,20 +33,20 @@ weight N (c ∷ rest) = choose N c * weight N rest
 -- first l arguments are its u arguments
 unfoldable pub arguments : Request → List ℕ → List Argument
 arguments rq choice =
-    byForm rq (map (λ c. alongU (pathNumber rq c 0)) choice)
-    (map (λ c. alongU (pathNumber rq c 0)) (take (rq .first) choice) ++ map (λ c. alongV (pathNumber rq c 1)) (drop (rq .first) choice))
+    byForm (rq .head) (map (λ c. alongU (pathNumber rq c 0)) choice)
+    (map (λ c. alongU (pathNumber rq c 0)) (take (rq .head .first) choice) ++ map (λ c. alongV (pathNumber rq c 1)) (drop (rq .head .first) choice))
     (map (λ c. within (pathNumber rq c 0) (pathNumber rq c 1) (pathNumber rq c 2)) choice)
 
 -- "Numerator at R: over every choice [..] with sum R, add (product of the binomials N over number) times (blossom value
 -- at those points)"
 unfoldable pub numerator : Request → ℕ → ℤ
 numerator rq R =
-    overChoices (degree rq) (rq .N)
-    (λ choice. cond (eqb (total choice) R) (pos (weight (rq .N) choice) *ℤ blossom (arguments rq choice) (netOf rq)) (pos 0))
+    overChoices (degree (rq .head)) (rq .head .N)
+    (λ choice. cond (eqb (total choice) R) (pos (weight (rq .head .N) choice) *ℤ blossom (arguments rq choice) (netOf rq)) (pos 0))
 
 -- "Exact point: numerator / (binomial(L, R)·1024^r)"
 unfoldable pub denominator : Request → ℕ → ℕ
-denominator rq R = choose (longest rq) R * 1024 ^ degree rq
+denominator rq R = choose (longest (rq .head)) R * 1024 ^ degree (rq .head)
 
 -- "Rounded point: the nearest whole number"
 unfoldable pub point : Request → ℕ → ℤ

@@ -4,7 +4,9 @@ use mathlib.Core.List.{List}
 use Prim.Native.Nat.{ℕ, zero, suc, _+_, _*_, _-_}
 use lib.IntN.{ℤ, pos}
 use lib.ListN.{getD}
-use Rattle.request.specs.Request.{Request, byForm, numbers}
+use Rattle.request.specs.declared.Head.{Head}
+use Rattle.request.specs.Head.{byForm, numbers}
+use Rattle.request.specs.Request.{Request}
 
 abbrev pub Net : Type 0
 Net = ℕ → ℕ → ℤ
@@ -15,12 +17,12 @@ rowStart n zero = 0
 rowStart n (suc i) = rowStart n i + (n - i + 1)
 
 -- where the control value of (i, j) stands: i; "b(i,j) stands at i·(m+1) + j"; row i of the triangle, at j
-unfoldable pub placeOf : Request → ℕ → ℕ → ℕ
-placeOf rq i j = byForm rq i (i * (rq .second + 1) + j) (rowStart (rq .first) i + j)
+unfoldable pub placeOf : Head → ℕ → ℕ → ℕ
+placeOf h i j = byForm h i (i * (h .second + 1) + j) (rowStart (h .first) i + j)
 
 unfoldable pub netOf : Request → Net
-netOf rq i j = getD (rq .surface) (placeOf rq i j) (pos 0)
+netOf rq i j = getD (rq .surface) (placeOf (rq .head) i j) (pos 0)
 
 -- "Path points follow one another, the numbers of a point together": number t of point c
 unfoldable pub pathNumber : Request → ℕ → ℕ → ℤ
-pathNumber rq c t = getD (rq .path) (numbers rq * c + t) (pos 0)
+pathNumber rq c t = getD (rq .path) (numbers (rq .head) * c + t) (pos 0)

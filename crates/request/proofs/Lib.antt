@@ -1,0 +1,3 @@
+-- Laws of the request's definitions, for the proofs here and above. Assumes nothing.
+pub mod Forms
+pub mod Least
