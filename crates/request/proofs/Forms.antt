@@ -1,7 +1,7 @@
 -- What a known form chooses, what DEGREE leaves, and when two tests of order agree. Assumes nothing.
 use mathlib.Core.Path.{_≡_, refl, sym, ap, _∙_}
 use mathlib.Core.Logic.{⊎-elim}
-use mathlib.Core.Bool.{Bool, true, false, not, cond, or-false}
+use mathlib.Core.Bool.{Bool, true, false, not, cond, _||_, or-false}
 use Prim.Native.Nat.{ℕ, _+_, _-_, _≤_, _<_}
 use native.Mathlib.Omega.{arith}
 use lib.Dec.{ltb, eqb}
@@ -29,9 +29,9 @@ module _ {A : Type 0} (h : Head) (x y z : A) where
   unfolding byForm
   at-tensor e = rw e
 
-  pub at-triangle : h .form ≡ 3 → byForm h x y z ≡ z
+  pub at-triangle : (h .form ≡ 1 → ⊥) → (h .form ≡ 2 → ⊥) → byForm h x y z ≡ z
   unfolding byForm
-  at-triangle e = rw e
+  at-triangle no1 no2 = rw (ne-eqb _ _ no1, ne-eqb _ _ no2)
 
 -- forms 1 and 3 choose alike where the two are the same
 pub at-outer : {A : Type 0} (h : Head) (x y : A) → (h .form ≡ 2 → ⊥) → byForm h x y x ≡ x
@@ -63,3 +63,45 @@ pub small-outer : (h : Head) → (h .form ≡ 2 → ⊥) → h .first ≤ 4 → 
 unfolding notDegree degree
 small-outer h no2 f n =
     rw (at-outer h (h .first) (h .first + h .second) no2, at-outer h (not (eqb (h .second) 0)) false no2, le-ltb 4 (h .first) f, le-ltb 3 (h .N) n)
+
+or-none : (a b : Bool) → (a || b) ≡ false → (a ≡ false) × (b ≡ false)
+or-none true b e = (e, cc)
+or-none false b e = (refl, e)
+
+-- what DEGREE leaves: both degrees together are r, at most 4, and N is at most 3
+pub record Small (h : Head) : Type 0 where
+  pub r-is : degree h ≡ h .first + h .second
+  pub r-most : h .first + h .second ≤ 4
+  pub N-most : h .N ≤ 3
+
+-- the three parts of DEGREE's test, where it fails
+parts : (x n : ℕ) (t : Bool) → (ltb 4 x || ltb 3 n || t) ≡ false → (x ≤ 4) × (n ≤ 3) × (t ≡ false)
+parts x n t e =
+    let outer = or-none (ltb 4 x || ltb 3 n) t e in
+    let inner = or-none (ltb 4 x) (ltb 3 n) (outer .0) in
+    (ltb-false 4 x (inner .0), ltb-false 3 n (inner .1), outer .1)
+
+zero-second : (s : ℕ) → not (eqb s 0) ≡ false → s ≡ 0
+zero-second s e = eqb-true s 0 (not-false (eqb s 0) e)
+
+pub small : (h : Head) → notDegree h ≡ false → Small h
+unfolding notDegree degree byForm
+small h e = go (eqb (h .form) 1) (eqb (h .form) 2) refl refl e
+  where
+    go : (a b : Bool) → eqb (h .form) 1 ≡ a → eqb (h .form) 2 ≡ b
+        → (ltb 4 (cond a (h .first) (cond b (h .first + h .second) (h .first))) || ltb 3 (h .N) || cond a (not (eqb (h .second) 0)) (cond b false (not (eqb (h .second) 0)))) ≡ false
+        → Small h
+    go true b p q t =
+        let w = parts (h .first) (h .N) (not (eqb (h .second) 0)) t in
+        let z = zero-second (h .second) (w .2) in
+        record { r-is = rw p (omega arith); r-most = omega arith; N-most = w .1 }
+    go false true p q t =
+        let w = parts (h .first + h .second) (h .N) false t in
+        record { r-is = rw (p, q); r-most = w .0; N-most = w .1 }
+    go false false p q t =
+        let w = parts (h .first) (h .N) (not (eqb (h .second) 0)) t in
+        let z = zero-second (h .second) (w .2) in
+        record { r-is = rw (p, q) (omega arith); r-most = omega arith; N-most = w .1 }
+
+pub degree-most : (h : Head) → notDegree h ≡ false → degree h ≤ 4
+degree-most h e = let s = small h e in omega arith

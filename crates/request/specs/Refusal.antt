@@ -77,6 +77,14 @@ refused number place = record { number = number; place = place; count = 0 }
 unfoldable pub accepted : Head → Answer
 accepted h = record { number = 0; place = 0; count = longest h + 1 }
 
+-- the last three, on the numbers themselves
+unfoldable pub answerNumbers : Request → Answer
+answerNumbers rq =
+    cond (notValue rq) (refused 6 (valuePlace (rq .surface)))
+    (cond (notParameter rq) (refused 7 (parameterPlace (rq .path)))
+    (cond (notBalance rq) (refused 8 (balancePlace (rq .path) (rq .head .N)))
+    (accepted (rq .head))))
+
 -- the refusals in their order, with their numbers and places
 unfoldable pub answer : Request → ℕ → ℕ → Answer
 answer rq exactRoom pointsRoom =
@@ -85,7 +93,4 @@ answer rq exactRoom pointsRoom =
     (cond (notSurface rq) (refused 3 0)
     (cond (notPath rq) (refused 4 0)
     (cond (notRoom (rq .head) exactRoom pointsRoom) (refused 5 0)
-    (cond (notValue rq) (refused 6 (valuePlace (rq .surface)))
-    (cond (notParameter rq) (refused 7 (parameterPlace (rq .path)))
-    (cond (notBalance rq) (refused 8 (balancePlace (rq .path) (rq .head .N)))
-    (accepted (rq .head)))))))))
+    (answerNumbers rq)))))

@@ -2,12 +2,10 @@
 // for every request and writes nothing.
 ghost use mathlib.Core.Path.{_≡_};
 ghost use mathlib.Core.Bool.{false};
-ghost use Prim.Native.Nat.{ℕ, _+_};
-ghost use lib.IntN.{pos};
-ghost use lib.ListN.{length, getD};
-ghost use Rattle.units.specs.Bounds.{beyondPath};
-ghost use Rattle.request.specs.Head.{longest, surfaceCount, pathCount};
-ghost use Rattle.request.specs.Refusal.{answer, refused, uneven, notKind, notDegree, valuePlace, parameterPlace, balancePlace};
+ghost use Prim.Native.Nat.{_+_, _<_};
+ghost use lib.ListN.{length};
+ghost use Rattle.request.specs.Head.{degree, longest, surfaceCount, pathCount};
+ghost use Rattle.request.specs.Refusal.{answer, answerNumbers, refused, uneven, notKind, notDegree, valuePlace, parameterPlace, balancePlace};
 
 // What a request is besides its two arrays: the form, a first and a second degree, and the path's degree N.
 pub struct Head {
@@ -64,4 +62,179 @@ pub fn not_degree(head: Head) -> bool
         return 4 - first < second;
     }
     second != 0
+}
+
+// r: the number of arguments that the blossom takes.
+pub fn degree(head: Head) -> u64
+    ensures { λ r. ⌜ r ≡ degree head ⌝ }
+{
+    let first = head.first as u64;
+    if head.form == 2 {
+        return first + head.second as u64;
+    }
+    first
+}
+
+// How many control values the head asks for.
+fn surface_count(head: Head) -> usize
+    requires { ⌜ notDegree head ≡ false ⌝ }
+    ensures { λ r. ⌜ r ≡ surfaceCount head ⌝ }
+{
+    let first = head.first as usize;
+    if head.form == 1 {
+        return first + 1;
+    }
+    if head.form == 2 {
+        let second = head.second as usize;
+        return (first + 1) * (second + 1);
+    }
+    (first + 1) * (first + 2) / 2
+}
+
+// How many path numbers the head asks for.
+fn path_count(head: Head) -> usize
+    requires { ⌜ notDegree head ≡ false ⌝ }
+    ensures { λ r. ⌜ r ≡ pathCount head ⌝ }
+{
+    let points = head.N as usize + 1;
+    if head.form == 1 {
+        return 1 * points;
+    }
+    if head.form == 2 {
+        return 2 * points;
+    }
+    3 * points
+}
+
+// L + 1: how many places of each output array are written.
+fn place_count(head: Head) -> usize
+    requires { ⌜ notDegree head ≡ false ⌝ }
+    ensures { λ r. ⌜ r ≡ longest head + 1 ⌝ }
+{
+    let r = degree(head) as usize;
+    r * (head.N as usize) + 1
+}
+
+// The least index of a control value beyond its bounds, or the surface's length.
+fn value_place(surface: &[i32]) -> usize
+    ensures { λ r. ⌜ r ≡ valuePlace (now (surface .entry)) ⌝ }
+{
+    let mut k = 0;
+    while k < surface.len() {
+        if units::beyond_travel(units::travel_at(surface, k)) {
+            return k;
+        }
+        k += 1;
+    }
+    k
+}
+
+// The least index of a path number beyond its bounds, or the path's length.
+fn parameter_place(path: &[i32]) -> usize
+    ensures { λ r. ⌜ r ≡ parameterPlace (now (path .entry)) ⌝ }
+{
+    let mut k = 0;
+    while k < path.len() {
+        if units::beyond_path(units::path_number_at(path, k)) {
+            return k;
+        }
+        k += 1;
+    }
+    k
+}
+
+// Whether x + y + z of path point c is not 1024. The path's numbers are within their bounds.
+fn is_uneven(path: &[i32], c: usize) -> bool
+    requires { ⌜ (c < 4) × (parameterPlace (now path) ≡ length (now path)) ⌝ }
+    ensures { λ r. ⌜ r ≡ uneven (now (path .entry)) c ⌝ }
+{
+    let x = units::path_size_at(path, 3 * c);
+    let y = units::path_size_at(path, 3 * c + 1);
+    let z = units::path_size_at(path, 3 * c + 2);
+    x + y + z != 1024
+}
+
+// The least number of a path point whose x + y + z is not 1024, or N + 1.
+fn balance_place(path: &[i32], n: usize) -> usize
+    requires { ⌜ (n < 4) × (parameterPlace (now path) ≡ length (now path)) ⌝ }
+    ensures { λ r. ⌜ r ≡ balancePlace (now (path .entry)) n ⌝ }
+{
+    let mut c = 0;
+    while c < n + 1 {
+        if is_uneven(path, c) {
+            return c;
+        }
+        c += 1;
+    }
+    c
+}
+
+fn acceptance(count: usize) -> Answer
+    ensures { λ r. ⌜ r ≡ record { number = 0; place = 0; count = count } ⌝ }
+{
+    Answer {
+        number: 0,
+        place: 0,
+        count,
+    }
+}
+
+// The last three refusals, VALUE, PARAMETER and BALANCE, of a request that the first five let pass.
+fn judge_numbers(head: Head, surface: &[i32], path: &[i32], count: usize) -> Answer
+    requires { ⌜ (notDegree head ≡ false) × (count ≡ longest head + 1) ⌝ }
+    ensures { λ r. ⌜ r ≡ answerNumbers (record { head = head; surface = now (surface .entry); path = now (path .entry) }) ⌝ }
+{
+    let value = value_place(surface);
+    if value < surface.len() {
+        return refusal(6, value);
+    }
+    let parameter = parameter_place(path);
+    if parameter < path.len() {
+        return refusal(7, parameter);
+    }
+    if head.form == 1 {
+        return acceptance(count);
+    }
+    if head.form == 2 {
+        return acceptance(count);
+    }
+    let n = head.N as usize;
+    let balance = balance_place(path, n);
+    if balance < n + 1 {
+        return refusal(8, balance);
+    }
+    acceptance(count)
+}
+
+// The eight refusals in their order, each exactly on its condition, or the acceptance: document 01's answer to a request
+// whose output arrays have the two rooms.
+pub fn judge(
+    head: Head,
+    surface: &[i32],
+    path: &[i32],
+    exact_room: usize,
+    points_room: usize,
+) -> Answer
+    ensures { λ r. ⌜ r ≡ answer (record { head = head; surface = now (surface .entry); path = now (path .entry) }) «exact_room» «points_room» ⌝ }
+{
+    if not_kind(head) {
+        return refusal(1, 0);
+    }
+    if not_degree(head) {
+        return refusal(2, 0);
+    }
+    if surface.len() != surface_count(head) {
+        return refusal(3, 0);
+    }
+    if path.len() != path_count(head) {
+        return refusal(4, 0);
+    }
+    let count = place_count(head);
+    if exact_room < count {
+        return refusal(5, 0);
+    }
+    if points_room < count {
+        return refusal(5, 0);
+    }
+    judge_numbers(head, surface, path, count)
 }

@@ -69,3 +69,10 @@ pub fn beyond_path(p: PathNumber) -> bool
     }
     1024 < p.0
 }
+
+// The size of number k of a path.
+pub fn path_size_at(path: &[i32], k: usize) -> u64
+    ensures { λ r. ⌜ r ≡ natAbs (getD (now (path .entry)) k (pos 0)) ⌝ }
+{
+    size_of(path_number_at(path, k))
+}

@@ -1,0 +1,45 @@
+-- What PARAMETER and BALANCE leave of a path: each number is a natural number, at most one. Assumes nothing.
+use mathlib.Core.Path.{_≡_, sym, ap, subst}
+use mathlib.Core.List.{List}
+use mathlib.Core.Bool.{Bool, true, false, not}
+use Prim.Native.Nat.{ℕ, _+_, _*_, _≤_, _<_}
+use native.Mathlib.Decide.{decLt}
+use native.Mathlib.Omega.{arith}
+use lib.IntN.{ℤ, pos, natAbs, _+ℤ_}
+use lib.Dec.{eqb}
+use lib.ListN.{length, getD, List·getD-eq-default}
+use Rattle.units.specs.Bounds.{beyondTravel, beyondPath, one, most}
+use Rattle.units.proofs.Within.{IsPath, path-within, zero-within, travel-within}
+use Rattle.request.specs.Refusal.{least, valuePlace, parameterPlace, uneven, isNumber}
+use Rattle.request.proofs.Least.{least-before, least-le}
+
+-- whatever holds of 0 and of each number of a list holds of what is read anywhere
+pub read-anywhere : (P : ℤ → Type 0) (l : List ℤ) → P (pos 0) → ((k : ℕ) → k < length l → P (getD l k (pos 0))) → (k : ℕ) → P (getD l k (pos 0))
+read-anywhere P l none each k = go (decLt k (length l))
+  where
+    go : Dec (k < length l) → P (getD l k (pos 0))
+    go (yes m) = each k m
+    go (no m) = subst P (sym (List·getD-eq-default l (pos 0) (omega arith))) none
+
+pub parameter-most : (path : List ℤ) → parameterPlace path ≤ length path
+unfolding parameterPlace
+parameter-most path = least-le (length path) (λ k. beyondPath (getD path k (pos 0)))
+
+pub path-numbers : (path : List ℤ) → parameterPlace path ≡ length path → (k : ℕ) → IsPath (getD path k (pos 0))
+unfolding parameterPlace
+path-numbers path e =
+    read-anywhere IsPath path zero-within (λ k m. path-within _ (least-before (length path) (λ k. beyondPath (getD path k (pos 0))) k (rw e m)))
+
+pub travels : (surface : List ℤ) → valuePlace surface ≡ length surface → (k : ℕ) → natAbs (getD surface k (pos 0)) ≤ most
+unfolding valuePlace
+travels surface e =
+    read-anywhere (λ z. natAbs z ≤ most) surface (omega arith) (λ k m. travel-within _ (least-before (length surface) (λ k. beyondTravel (getD surface k (pos 0))) k (rw e m)))
+
+-- the sizes of a point's numbers add up as the numbers do
+pub uneven-is : (path : List ℤ) (c : ℕ) → parameterPlace path ≡ length path
+    → uneven path c ≡ not (eqb (natAbs (getD path (3 * c) (pos 0)) + natAbs (getD path (3 * c + 1) (pos 0)) + natAbs (getD path (3 * c + 2) (pos 0))) one)
+unfolding uneven isNumber
+uneven-is path c e = ap not (sums _ _ _ (path-numbers path e (3 * c)) (path-numbers path e (3 * c + 1)) (path-numbers path e (3 * c + 2)))
+  where
+    sums : (x y z : ℤ) → IsPath x → IsPath y → IsPath z → isNumber (x +ℤ y +ℤ z) one ≡ eqb (natAbs x + natAbs y + natAbs z) one
+    sums x y z p q r = rw (p .size, q .size, r .size)

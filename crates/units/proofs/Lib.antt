@@ -1,0 +1,2 @@
+-- What the bounds' tests say where they fail. Assumes nothing.
+pub mod Within
