@@ -13,7 +13,7 @@ use Rattle.request.specs.declared.Answer.{Answer}
 use Rattle.request.specs.Head.{byForm, degree, longest, surfaceCount, pathCount, numbers}
 use Rattle.request.specs.Request.{Request}
 use Rattle.request.specs.Refusal.{answer, answerNumbers, refused, accepted, least, notKind, notDegree, notSurface, notPath, notRoom, notValue, notParameter, notBalance, valuePlace, parameterPlace, balancePlace, uneven, isNumber}
-use Rattle.net.specs.Net.{rowStart, placeOf, netOf, pathNumber}
+use Rattle.net.specs.Net.{rowStart, placeOf, netOf, numberAt, pathNumber}
 use Rattle.net.specs.Blossom.{step, blossom}
 use Rattle.net.specs.Composed.{overChoices, total, weight, arguments, numerator, denominator, point}
 use Rattle.compose.specs.Afterwards.{listBelow, afterwards, exactAfter, pointsAfter}
@@ -111,5 +111,5 @@ unfoldable pub stated : Ride → Answer × List ℤ × List ℤ
 stated r = (record { number = 0; place = 0; count = length (r .points) }, r .numerators ++ (mark ∷ []), r .points ++ (mark ∷ []))
 
 pub as-stated : map worked rides ≡ map stated rides
-unfolding rides ride whole below curve tensor triangle mark worked stated exactAfter pointsAfter afterwards listBelow answer answerNumbers refused accepted least notKind notDegree notSurface notPath notRoom notValue notParameter notBalance valuePlace parameterPlace balancePlace beyondTravel beyondPath uneven isNumber byForm degree longest surfaceCount pathCount numbers rowStart placeOf netOf pathNumber step blossom overChoices total weight arguments numerator denominator point nearest floorZ sumTo sumOver choose
+unfolding rides ride whole below curve tensor triangle mark worked stated exactAfter pointsAfter afterwards listBelow answer answerNumbers refused accepted least notKind notDegree notSurface notPath notRoom notValue notParameter notBalance valuePlace parameterPlace balancePlace beyondTravel beyondPath uneven isNumber byForm degree longest surfaceCount pathCount numbers rowStart placeOf netOf numberAt pathNumber step blossom overChoices total weight arguments numerator denominator point nearest floorZ sumTo sumOver choose
 as-stated = refl

@@ -1,5 +1,8 @@
--- Document 01's nets: the order of the numbers, the blossom, scaled, and the composed net, as definitions that compute.
--- Assumes nothing.
+-- Document 01's nets: the order of the numbers, the blossom, scaled, and the composed net, as definitions that compute;
+-- and how the code holds a net and adds over the choices. Assumes nothing.
 pub mod Net
 pub mod Blossom
 pub mod Composed
+pub mod Layout
+pub mod Lowered
+pub mod Gathered

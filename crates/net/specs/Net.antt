@@ -24,5 +24,8 @@ unfoldable pub netOf : Request → Net
 netOf rq i j = getD (rq .surface) (placeOf (rq .head) i j) (pos 0)
 
 -- "Path points follow one another, the numbers of a point together": number t of point c
+unfoldable pub numberAt : Head → List ℤ → ℕ → ℕ → ℤ
+numberAt h path c t = getD path (numbers h * c + t) (pos 0)
+
 unfoldable pub pathNumber : Request → ℕ → ℕ → ℤ
-pathNumber rq c t = getD (rq .path) (numbers (rq .head) * c + t) (pos 0)
+pathNumber rq = numberAt (rq .head) (rq .path)

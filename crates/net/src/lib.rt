@@ -1,1 +1,102 @@
-// Nets.
+// Nets by value: what one argument makes of a net, and the sum over all choices of path points. A net of any form is held
+// in 15 numbers, (i, j) by its diagonal i + j (specs/Layout.antt).
+ghost use mathlib.Core.Path.{_≡_};
+ghost use Prim.Native.Nat.{_+_, _*_, _^_, _≤_, _<_};
+ghost use lib.IntN.{pos, natAbs, _+ℤ_, _*ℤ_};
+ghost use lib.ListN.{getD, set};
+ghost use Rattle.net.specs.Layout.{diagonal, further};
+ghost use Rattle.net.specs.Lowered.{Mixable, Bounded, entryOf, Steppable, Lowered};
+use whole::Num;
+
+// ---- one argument
+
+// What an argument gives of each of three neighbours, in 1/1024: x of p(i+1,j), y of p(i,j+1), z of p(i,j).
+pub struct Shares {
+    pub x: u64,
+    pub y: u64,
+    pub z: u64,
+}
+
+// The diagonal i + j of place k.
+fn diagonal(k: usize) -> usize
+    ensures { λ r. ⌜ r ≡ diagonal k ⌝ }
+{
+    if k < 1 {
+        return 0;
+    }
+    if k < 3 {
+        return 1;
+    }
+    if k < 6 {
+        return 2;
+    }
+    if k < 10 {
+        return 3;
+    }
+    4
+}
+
+// Where (i, j+1) stands, for (i, j) at k; (i+1, j) stands right after it.
+fn further(k: usize) -> usize
+    requires { ⌜ k < 10 ⌝ }
+    ensures { λ r. ⌜ (r ≡ further k) × (r + 1 < 15) ⌝ }
+{
+    k + diagonal(k) + 1
+}
+
+// Number k of a net.
+fn at(p: &[i64; 15], k: usize) -> Num
+    requires { ⌜ k < 15 ⌝ }
+    ensures { λ r. ⌜ r .0 ≡ getD (now (p .entry)) k (pos 0) ⌝ }
+{
+    Num(p[k])
+}
+
+fn put(p: &mut [i64; 15], k: usize, x: Num)
+    requires { ⌜ k < 15 ⌝ }
+    ensures { λ _. ⌜ now (p .exit) ≡ set (now (p .entry)) k (x .0) ⌝ }
+{
+    let v = x.0;
+    p[k] = v;
+}
+
+// A share of a number.
+fn share(x: u64, a: Num) -> Num
+    requires { ⌜ (x ≤ 1024) × (1024 * natAbs (a .0) < 2 ^ 63) ⌝ }
+    ensures { λ r. ⌜ (r .0 ≡ pos x *ℤ a .0) × (natAbs (r .0) ≡ x * natAbs (a .0)) ⌝ }
+{
+    whole::product(whole::plus(x), a)
+}
+
+// The shares of three numbers, added.
+fn mix(w: Shares, a: Num, b: Num, c: Num) -> Num
+    requires { ⌜ Mixable w (a .0) (b .0) (c .0) ⌝ }
+    ensures { λ r. ⌜ r .0 ≡ pos (w .x) *ℤ a .0 +ℤ pos (w .y) *ℤ b .0 +ℤ pos (w .z) *ℤ c .0 ⌝ }
+{
+    let first = whole::sum(share(w.x, a), share(w.y, b));
+    whole::sum(first, share(w.z, c))
+}
+
+// Place k of the net one degree lower.
+fn entry(p: &[i64; 15], w: Shares, k: usize) -> Num
+    requires { ⌜ (k < 10) × Bounded w (now p) ⌝ }
+    ensures { λ r. ⌜ r .0 ≡ entryOf w (now (p .entry)) k ⌝ }
+{
+    let next = further(k);
+    mix(w, at(p, next + 1), at(p, next), at(p, k))
+}
+
+// One argument makes a net one degree lower: the first d(d+1)/2 places are made from the last net's.
+fn lower(p: [i64; 15], w: Shares, d: usize) -> [i64; 15]
+    requires { ⌜ Steppable w p d ⌝ }
+    ensures { λ r. ⌜ Lowered w p d r ⌝ }
+{
+    let mut q = p;
+    let count = d * (d + 1) / 2;
+    let mut k = 0;
+    while k < count {
+        put(&mut q, k, entry(&p, w, k));
+        k += 1;
+    }
+    q
+}

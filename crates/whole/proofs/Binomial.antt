@@ -6,7 +6,7 @@ use native.Mathlib.Nat.{zero-add, add-zero, suc-add, add-suc}
 use native.Mathlib.Omega.{arith}
 use lib.IntN.{ℤ, pos, pow}
 use Rattle.whole.specs.Sum.{sumOver}
-use Rattle.whole.specs.Choose.{choose}
+use Rattle.whole.specs.Choose.{choose, chooseFrom}
 use Rattle.whole.proofs.Ring.{_⊕_, _⊗_, ⊕-left-comm, ⊕-⊗, ⊕-zero, ⊗-⊕, ⊗-assoc, ⊗-left-comm, zero-⊗, one-⊗, pos-add, pow-zero, pow-suc}
 use Rattle.whole.proofs.Sums.{sum-zero, sum-suc, sum-last, sum-cong, sum-add, sum-scale, sum-none}
 
@@ -98,12 +98,6 @@ vandermonde zero n (suc R) =
     ∙ ap₂ _⊕_ (ap (λ c. pos c ⊗ pos (choose n (suc R))) (choose-zero 0)) (sum-cong R _ _ (λ i k. ap (λ c. pos c ⊗ pos (choose n k)) (choose-none i) ∙ zero-⊗ _) ∙ sum-none R)
     ∙ rw (one-⊗, ⊕-zero, zero-add)
 vandermonde (suc m) n (suc R) = pascal-sum R m (λ i k. pos (choose n k)) ∙ rw (vandermonde m n R, vandermonde m n (suc R), suc-add, choose-pascal, pos-add)
-
--- n over R − s, and 0 where R < s
-unfoldable pub chooseFrom : ℕ → ℕ → ℕ → ℕ
-chooseFrom n zero R = choose n R
-chooseFrom n (suc s) zero = 0
-chooseFrom n (suc s) (suc R) = chooseFrom n s R
 
 pub chooseFrom-zero : (n R : ℕ) → chooseFrom n 0 R ≡ choose n R
 unfolding chooseFrom

@@ -3,3 +3,7 @@ pub mod Ring
 pub mod Sums
 pub mod Binomial
 pub mod Bound
+pub mod Bits
+pub mod Rounding
+pub mod Halves
+pub mod Fill

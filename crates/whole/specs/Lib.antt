@@ -1,4 +1,4 @@
--- Whole numbers: what sums and binomials mean. Assumes nothing.
+-- Whole numbers: what sums, binomials and rounding mean. Assumes nothing.
 pub mod Sum
 pub mod Choose
 pub mod Round

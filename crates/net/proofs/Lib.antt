@@ -1,0 +1,4 @@
+-- Laws of nets, steps and sums over all choices. Assumes nothing.
+pub mod Steps
+pub mod Size
+pub mod Places

@@ -1,0 +1,61 @@
+-- The sum over all choices as the code adds it, one argument at a time, so that the arguments that choices share are taken
+-- once; that it is the literal sum is proved in proofs/Choices.antt. Assumes nothing.
+use mathlib.Core.Path.{_≡_}
+use mathlib.Core.Bool.{cond, false}
+use mathlib.Core.List.{List}
+use Prim.Native.Nat.{ℕ, zero, suc, _+_, _*_, _^_, _≤_, _<_}
+use lib.IntN.{ℤ, pos, natAbs, _+ℤ_, _*ℤ_}
+use lib.Dec.{ltb, eqb}
+use lib.ListN.{length, getD}
+use Rattle.whole.specs.Sum.{sumTo}
+use Rattle.whole.specs.Choose.{choose, chooseFrom}
+use Rattle.request.specs.declared.Head.{Head}
+use Rattle.request.specs.Head.{byForm}
+use Rattle.request.specs.Refusal.{notDegree, parameterPlace, balancePlace}
+use Rattle.net.specs.Net.{Net, numberAt}
+use Rattle.net.specs.Blossom.{Argument, alongU, alongV, within, step}
+use Rattle.net.specs.Layout.{held, entryMost}
+
+-- the argument that point c gives where `left` arguments are still to be taken, this one among them: in form 2 the last m
+-- of them are the v arguments
+unfoldable pub argumentAt : Head → List ℤ → ℕ → ℕ → Argument
+argumentAt h path left c =
+    byForm h (alongU (numberAt h path c 0))
+    (cond (ltb (h .second) left) (alongU (numberAt h path c 0)) (alongV (numberAt h path c 1)))
+    (within (numberAt h path c 0) (numberAt h path c 1) (numberAt h path c 2))
+
+-- the sum over all choices of points for the arguments that are left, of those whose numbers and the numbers chosen before,
+-- which add up to s, have the sum R
+unfoldable pub gathered : ℕ → (ℕ → ℕ → Argument) → ℕ → ℕ → ℕ → Net → ℤ
+gathered N argument zero s R p = cond (eqb s R) (p 0 0) (pos 0)
+gathered N argument (suc left) s R p =
+    sumTo N (λ c. pos (choose N c) *ℤ gathered N argument left (s + c) R (step (argument (suc left) c) p))
+
+-- what PARAMETER and BALANCE leave of a path
+pub record GoodPath (h : Head) (path : List ℤ) : Type 0 where
+  pub numbers : parameterPlace path ≡ length path
+  pub even : (h .form ≡ 1 → ⊥) → (h .form ≡ 2 → ⊥) → balancePlace path (h .N) ≡ h .N + 1
+
+-- the numerators' greatest size: the greatest binomial of row 12, and the greatest blossom value
+abbrev pub blossomMost : ℕ
+blossomMost = 2 ^ 52
+
+abbrev pub numeratorMost : ℕ
+numeratorMost = 924 * blossomMost
+
+-- when the sum over the rest of the choices may be added to an array, each choice weighed by `weight` too: there is a place
+-- for every sum, and none can leave its range
+pub record Ready (h : Head) (path net : List ℤ) (left s weight : ℕ) (out : List ℤ) : Type 0 where
+  pub small : notDegree h ≡ false
+  pub good : GoodPath h path
+  pub few : left ≤ 4
+  pub room : s + left * h .N < length out
+  pub entries : (k : ℕ) → natAbs (getD net k (pos 0)) ≤ entryMost left
+  pub within : (R : ℕ) → natAbs (getD out R (pos 0)) + weight * chooseFrom (left * h .N) s R * blossomMost ≤ numeratorMost
+
+-- what the array holds afterwards
+pub record Added (h : Head) (path net : List ℤ) (left s weight : ℕ) (out after : List ℤ) : Type 0 where
+  pub long : length after ≡ length out
+  pub each : (R : ℕ) → R < length out
+      → getD after R (pos 0) ≡ getD out R (pos 0) +ℤ pos weight *ℤ gathered (h .N) (argumentAt h path) left s R (held net)
+  pub most : (R : ℕ) → natAbs (getD after R (pos 0)) ≤ natAbs (getD out R (pos 0)) + weight * chooseFrom (left * h .N) s R * blossomMost

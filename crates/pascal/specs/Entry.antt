@@ -1,0 +1,19 @@
+-- What the table of binomial coefficients answers, and the number of its last row.
+-- A row that the table does not have is answered with 0, as a place past a row's end is. Assumes nothing.
+use mathlib.Core.Bool.{cond}
+use mathlib.Core.List.{List}
+use Prim.Native.Nat.{ℕ, _+_, _*_, _/_}
+use lib.Dec.{leb}
+use lib.ListN.{getD}
+use Rattle.whole.specs.Choose.{choose}
+
+abbrev pub lastRow : ℕ
+lastRow = 12
+
+-- n over k up to the last row, and 0 after it
+unfoldable pub entry : ℕ → ℕ → ℕ
+entry n k = cond (leb n lastRow) (choose n k) 0
+
+-- the number at place k of row n in a table of rows, one after the other: row n starts at n(n + 1)/2
+unfoldable pub cellOf : List ℕ → ℕ → ℕ → ℕ
+cellOf t n k = getD t (n * (n + 1) / 2 + k) 0

@@ -1,0 +1,2 @@
+-- Pascal's triangle: what the table answers. Assumes nothing.
+pub mod Entry

@@ -1,0 +1,98 @@
+-- A signed operation reads its operands from their bits and writes its result as bits. Where the operands and the result
+-- fit, nothing is lost: laws for every operation f of two numbers, and for the way from a number to its size and back.
+-- Assumes nothing.
+use mathlib.Core.Path.{_≡_, refl, sym, _∙_, ap, ap₂}
+use mathlib.Core.Bool.{true, false, not, true≢false}
+use Prim.Native.Nat.{ℕ, zero, suc, _+_, _-_, _^_, _≤_, _<_}
+use native.Mathlib.Nat.{zero-add}
+use native.Mathlib.Numerals.{add-one}
+use native.Mathlib.Omega.{arith}
+use lib.Dec.{T}
+use lib.IntN.{ℤ, pos, negsuc, negℤ, natAbs, _-ℤ_, +ℤ-comm, -ℤ-one}
+use lib.Signed.{mag, nonNeg, ltZ}
+use borrow.Author.Tests.{le-ltb}
+use mir.Syntax.{w64}
+use mir.Val.{Fits, SFits, toZ, ofZ}
+use mir.Facts.{toZ-ofZ, toZ-pos}
+
+fits-size : (z : ℤ) → natAbs z < 2 ^ 63 → SFits w64 z
+fits-size (pos n) h = record { sfits = h }
+fits-size (negsuc n) h = record { sfits = omega arith }
+
+-- z written as bits and read again
+abbrev pub again : ℤ → ℤ
+again z = toZ w64 (ofZ w64 z)
+
+pub again-is : (z : ℤ) → mag z < 2 ^ 63 → again z ≡ z
+again-is z h = toZ-ofZ {w = w64} {z = z} (record { sfits = h })
+
+-- ---- an operation of two numbers
+module _ (f : ℤ → ℤ → ℤ) (a b : ℤ) (ha : mag a < 2 ^ 63) (hb : mag b < 2 ^ 63) (h : natAbs (f a b) < 2 ^ 63) where
+  operands : f (again a) (again b) ≡ f a b
+  operands = ap₂ f (again-is a ha) (again-is b hb)
+
+  pub result-fits : SFits w64 (f (again a) (again b))
+  result-fits = rw operands (fits-size (f a b) h)
+
+  pub result-is : again (f (again a) (again b)) ≡ f a b
+  result-is = ap again operands ∙ toZ-ofZ {w = w64} {z = f a b} (fits-size (f a b) h)
+
+-- ---- the sign
+pub sign-is : (z : ℤ) → mag z < 2 ^ 63 → ltZ (again z) (pos 0) ≡ not (nonNeg z)
+sign-is z h = ap (λ x. ltZ x (pos 0)) (again-is z h) ∙ sign z
+  where
+    sign : (z : ℤ) → ltZ z (pos 0) ≡ not (nonNeg z)
+    sign (pos a) = le-ltb a 0 (omega arith)
+    sign (negsuc a) = refl
+
+-- ---- from a number to its size: of a number that is not negative, and of a negative one, by −1 − z
+pub natural-casts : (z : ℤ) → mag z < 2 ^ 63 → ltZ (again z) (pos 0) ≡ false → T (nonNeg (again z)) × Fits w64 (natAbs (again z))
+natural-casts z h t = rw (again-is z h) (natural z h (sym (sign-is z h) ∙ t))
+  where
+    natural : (z : ℤ) → mag z < 2 ^ 63 → not (nonNeg z) ≡ false → T (nonNeg z) × Fits w64 (natAbs z)
+    natural (pos a) h t = (tt, record { fits = omega arith })
+    natural (negsuc a) h t = absurd (true≢false t)
+
+module _ (z : ℤ) (h : mag z < 2 ^ 63) (t : ltZ (again z) (pos 0) ≡ true) where
+  negative : z ≡ negsuc (mag z)
+  negative = below z (sym (sign-is z h) ∙ t)
+    where
+      below : (z : ℤ) → not (nonNeg z) ≡ true → z ≡ negsuc (mag z)
+      below (pos a) t = absurd (true≢false (sym t))
+      below (negsuc a) t = refl
+
+  other : negsuc 0 -ℤ again z ≡ pos (mag z)
+  other =
+      ap (λ x. negsuc 0 -ℤ x) (again-is z h ∙ negative) ∙ +ℤ-comm (negsuc 0) (pos (suc (mag z)))
+      ∙ -ℤ-one (pos (suc (mag z)))
+
+  other-is : again (negsuc 0 -ℤ again z) ≡ pos (mag z)
+  other-is = ap again other ∙ again-is (pos (mag z)) h
+
+  pub other-fits : SFits w64 (negsuc 0 -ℤ again z)
+  other-fits = rw other (record { sfits = h })
+
+  pub other-casts : T (nonNeg (again (negsuc 0 -ℤ again z))) × Fits w64 (natAbs (again (negsuc 0 -ℤ again z)))
+  other-casts = rw other-is (tt, record { fits = omega arith })
+
+  pub other-size : natAbs (again (negsuc 0 -ℤ again z)) + 1 ≡ natAbs z
+  other-size = rw other-is (add-one (mag z) ∙ sym (ap natAbs negative))
+
+-- ---- from a size to a negative number: −x is −1 − (x − 1)
+module _ (x : ℕ) (some : x ≡ 0 → ⊥) (h : x ≤ 2 ^ 63) where
+  lowered : negsuc 0 -ℤ toZ w64 (x - 1) ≡ negsuc (x - 1)
+  lowered = let b : x - 1 < 2 ^ 63 = omega arith in ap (λ z. negsuc 0 -ℤ z) (toZ-pos w64 b) ∙ one-less (x - 1)
+    where
+      one-less : (a : ℕ) → negsuc 0 -ℤ pos a ≡ negsuc a
+      one-less zero = refl
+      one-less (suc a) = ap (λ (n : ℕ). negsuc (suc n)) (zero-add a)
+
+  pub lowered-fits : SFits w64 (negsuc 0 -ℤ toZ w64 (x - 1))
+  lowered-fits = rw lowered (record { sfits = omega arith })
+
+  pub lowered-is : again (negsuc 0 -ℤ toZ w64 (x - 1)) ≡ negℤ (pos x)
+  lowered-is = ap again lowered ∙ again-is (negsuc (x - 1)) (omega arith) ∙ minus x some
+    where
+      minus : (x : ℕ) → (x ≡ 0 → ⊥) → negsuc (x - 1) ≡ negℤ (pos x)
+      minus zero f = absurd (f refl)
+      minus (suc x) f = ap negsuc (omega arith)
