@@ -2,3 +2,5 @@
 pub mod Steps
 pub mod Size
 pub mod Places
+pub mod Weigh
+pub mod Arguments

@@ -14,7 +14,9 @@ use Rattle.request.specs.Head.{byForm}
 use Rattle.request.specs.Refusal.{notDegree, parameterPlace, balancePlace}
 use Rattle.net.specs.Net.{Net, numberAt}
 use Rattle.net.specs.Blossom.{Argument, alongU, alongV, within, step}
+use Rattle.net.specs.declared.Shares.{Shares}
 use Rattle.net.specs.Layout.{held, entryMost}
+use Rattle.net.specs.Lowered.{mixed}
 
 -- the argument that point c gives where `left` arguments are still to be taken, this one among them: in form 2 the last m
 -- of them are the v arguments
@@ -30,6 +32,11 @@ unfoldable pub gathered : ℕ → (ℕ → ℕ → Argument) → ℕ → ℕ →
 gathered N argument zero s R p = cond (eqb s R) (p 0 0) (pos 0)
 gathered N argument (suc left) s R p =
     sumTo N (λ c. pos (choose N c) *ℤ gathered N argument left (s + c) R (step (argument (suc left) c) p))
+
+-- three shares that do what an argument does to every net
+pub record Weighs (w : Shares) (a : Argument) : Type 0 where
+  pub one : w .x + w .y + w .z ≡ 1024
+  pub same : (p : Net) (i j : ℕ) → step a p i j ≡ mixed w p i j
 
 -- what PARAMETER and BALANCE leave of a path
 pub record GoodPath (h : Head) (path : List ℤ) : Type 0 where

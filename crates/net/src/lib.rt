@@ -1,11 +1,16 @@
 // Nets by value: what one argument makes of a net, and the sum over all choices of path points. A net of any form is held
 // in 15 numbers, (i, j) by its diagonal i + j (specs/Layout.antt).
 ghost use mathlib.Core.Path.{_≡_};
+ghost use mathlib.Core.Bool.{false};
 ghost use Prim.Native.Nat.{_+_, _*_, _^_, _≤_, _<_};
 ghost use lib.IntN.{pos, natAbs, _+ℤ_, _*ℤ_};
-ghost use lib.ListN.{getD, set};
+ghost use lib.ListN.{length, getD, set};
+ghost use Rattle.request.specs.Refusal.{notDegree, parameterPlace, uneven};
+ghost use Rattle.net.specs.Blossom.{alongU, alongV, within};
 ghost use Rattle.net.specs.Layout.{diagonal, further};
 ghost use Rattle.net.specs.Lowered.{Mixable, Bounded, entryOf, Steppable, Lowered};
+ghost use Rattle.net.specs.Gathered.{Weighs, GoodPath, argumentAt};
+use request::Head;
 use whole::Num;
 
 // ---- one argument
@@ -99,4 +104,60 @@ fn lower(p: [i64; 15], w: Shares, d: usize) -> [i64; 15]
         k += 1;
     }
     q
+}
+
+// ---- the argument that a path point gives
+
+// u of form 1 and a u argument of form 2.
+fn along_u(u: u64) -> Shares
+    requires { ⌜ u ≤ 1024 ⌝ }
+    ensures { λ r. ⌜ Weighs r (alongU (pos u)) ⌝ }
+{
+    Shares {
+        x: u,
+        y: 0,
+        z: 1024 - u,
+    }
+}
+
+// A v argument of form 2.
+fn along_v(v: u64) -> Shares
+    requires { ⌜ v ≤ 1024 ⌝ }
+    ensures { λ r. ⌜ Weighs r (alongV (pos v)) ⌝ }
+{
+    Shares {
+        x: 0,
+        y: v,
+        z: 1024 - v,
+    }
+}
+
+// x, y, z of point c of form 3.
+fn within(path: &[i32], c: usize) -> Shares
+    requires { ⌜ (c < 4) × (parameterPlace (now path) ≡ length (now path)) × (uneven (now path) c ≡ false) ⌝ }
+    ensures { λ r. ⌜ Weighs r (within (getD (now (path .entry)) (3 * c) (pos 0)) (getD (now (path .entry)) (3 * c + 1) (pos 0)) (getD (now (path .entry)) (3 * c + 2) (pos 0))) ⌝ }
+{
+    Shares {
+        x: units::path_size_at(path, 3 * c),
+        y: units::path_size_at(path, 3 * c + 1),
+        z: units::path_size_at(path, 3 * c + 2),
+    }
+}
+
+// What point c gives where `left` arguments are still to be taken, this one among them.
+fn shares_of(head: Head, path: &[i32], left: usize, c: usize) -> Shares
+    requires { ⌜ (notDegree head ≡ false) × GoodPath head (now path) × (c ≤ head .N) ⌝ }
+    ensures { λ r. ⌜ Weighs r (argumentAt head (now (path .entry)) left c) ⌝ }
+{
+    if head.form == 1 {
+        return along_u(units::path_size_at(path, c));
+    }
+    if head.form == 2 {
+        let second = head.second as usize;
+        if second < left {
+            return along_u(units::path_size_at(path, 2 * c));
+        }
+        return along_v(units::path_size_at(path, 2 * c + 1));
+    }
+    within(path, c)
 }

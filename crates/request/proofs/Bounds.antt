@@ -10,7 +10,7 @@ use lib.Dec.{eqb}
 use lib.ListN.{length, getD, List·getD-eq-default}
 use Rattle.units.specs.Bounds.{beyondTravel, beyondPath, one, most}
 use Rattle.units.proofs.Within.{IsPath, path-within, zero-within, travel-within}
-use Rattle.request.specs.Refusal.{least, valuePlace, parameterPlace, uneven, isNumber}
+use Rattle.request.specs.Refusal.{least, valuePlace, parameterPlace, balancePlace, uneven, isNumber}
 use Rattle.request.proofs.Least.{least-before, least-le}
 
 -- whatever holds of 0 and of each number of a list holds of what is read anywhere
@@ -43,3 +43,8 @@ uneven-is path c e = ap not (sums _ _ _ (path-numbers path e (3 * c)) (path-numb
   where
     sums : (x y z : ℤ) → IsPath x → IsPath y → IsPath z → isNumber (x +ℤ y +ℤ z) one ≡ eqb (natAbs x + natAbs y + natAbs z) one
     sums x y z p q r = rw (p .size, q .size, r .size)
+
+-- where no point is uneven, each of them is even
+pub even-points : (path : List ℤ) (N : ℕ) → balancePlace path N ≡ N + 1 → (c : ℕ) → c ≤ N → uneven path c ≡ false
+unfolding balancePlace
+even-points path N e c m = least-before (N + 1) (uneven path) c (rw e (omega arith))

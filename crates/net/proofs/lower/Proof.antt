@@ -72,7 +72,7 @@ returns c =
     let count : c .before .loop .k ≡ before (c .before .before .args .d) = omega (arith, before-is (c .before .before .args .d) (s .few)) in
     record {
       each = lowered _ _ _ _ (s .few) (rw count at (i .3));
-      most = lowered-most _ _ s (i .3) (i .4);
+      most = lowered-most (c .before .loop .q) (c .before .loop .k) s (i .3) (i .4);
     }
 
 pub lower-spec : {M : Type 1} → statement M
