@@ -1,6 +1,14 @@
--- Laws of nets, steps and sums over all choices. Assumes nothing.
+-- Laws of nets, steps and sums over all choices, and the theorem of a ride read at a moment. Assumes nothing.
 pub mod Steps
+pub mod Symmetry
 pub mod Size
 pub mod Places
 pub mod Weigh
 pub mod Arguments
+pub mod Evaluation
+pub mod Bernstein
+pub mod Numerators
+pub mod Place
+pub mod Rounded
+pub mod Moment
+pub mod Readings

@@ -3,6 +3,7 @@
 pub mod Net
 pub mod Blossom
 pub mod Composed
+pub mod Reading
 pub mod Layout
 pub mod Lowered
 pub mod Gathered
