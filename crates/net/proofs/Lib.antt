@@ -5,6 +5,9 @@ pub mod Size
 pub mod Places
 pub mod Weigh
 pub mod Arguments
+pub mod Choices
+pub mod Literal
+pub mod Turns
 pub mod Evaluation
 pub mod Bernstein
 pub mod Numerators

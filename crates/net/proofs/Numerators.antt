@@ -34,7 +34,7 @@ sum-pick (suc n) (suc t) s H e =
     ∙ zero-⊕ _ ∙ sum-cong n _ _ (λ R S. ap (λ c. cond c (H (suc R) S) (pos 0)) (eqb·suc-suc t R))
     ∙ sum-pick n t s (λ R S. H (suc R) S) (omega arith)
 
-scale-cond : (x v : ℤ) (c : Bool) → x ⊗ cond c v (pos 0) ≡ cond c (x ⊗ v) (pos 0)
+pub scale-cond : (x v : ℤ) (c : Bool) → x ⊗ cond c v (pos 0) ≡ cond c (x ⊗ v) (pos 0)
 scale-cond x v true = refl
 scale-cond x v false = ⊗-zero x
 
@@ -42,7 +42,7 @@ pub sumTo-linear : (N : ℕ) → Linear (sumTo N)
 unfolding sumTo
 sumTo-linear N = record { add = λ f g. sum-add N (λ i k. f i) (λ i k. g i); scale = λ c f. sum-scale N c (λ i k. f i) }
 
-choices-all : (r N : ℕ) (F : List ℕ → ℤ) → overChoices r N F ≡ all (sumTo N) r F
+pub choices-all : (r N : ℕ) (F : List ℕ → ℤ) → overChoices r N F ≡ all (sumTo N) r F
 unfolding overChoices all
 choices-all zero N F = refl
 choices-all (suc r) N F = λ t. sumTo N (λ c. choices-all r N (λ rest. F (c ∷ rest)) t)

@@ -3,7 +3,7 @@
 use mathlib.Core.Path.{_≡_}
 use mathlib.Core.Bool.{cond, false}
 use mathlib.Core.List.{List}
-use Prim.Native.Nat.{ℕ, zero, suc, _+_, _*_, _^_, _≤_, _<_}
+use Prim.Native.Nat.{ℕ, zero, suc, _+_, _*_, _-_, _^_, _≤_, _<_}
 use lib.IntN.{ℤ, pos, natAbs, _+ℤ_, _*ℤ_}
 use lib.Dec.{ltb, eqb}
 use lib.ListN.{length, getD}
@@ -38,6 +38,11 @@ pub record Weighs (w : Shares) (a : Argument) : Type 0 where
   pub one : w .x + w .y + w .z ≡ 1024
   pub same : (p : Net) (i j : ℕ) → step a p i j ≡ mixed w p i j
 
+-- the net that an argument makes of one where d arguments are left: it holds wherever the rest of them read
+pub record Turned (a : Argument) (p : List ℤ) (d : ℕ) (q : List ℤ) : Type 0 where
+  pub each : (i j : ℕ) → i + j < d → held q i j ≡ step a (held p) i j
+  pub most : (k : ℕ) → natAbs (getD q k (pos 0)) ≤ entryMost (d - 1)
+
 -- what PARAMETER and BALANCE leave of a path
 pub record GoodPath (h : Head) (path : List ℤ) : Type 0 where
   pub numbers : parameterPlace path ≡ length path
@@ -50,11 +55,21 @@ blossomMost = 2 ^ 52
 abbrev pub numeratorMost : ℕ
 numeratorMost = 924 * blossomMost
 
--- when the sum over the rest of the choices may be added to an array, each choice weighed by `weight` too: there is a place
--- for every sum, and none can leave its range
-pub record Ready (h : Head) (path net : List ℤ) (left s weight : ℕ) (out : List ℤ) : Type 0 where
+-- when point c may be taken for one of the arguments that are left
+pub record Turnable (h : Head) (path net : List ℤ) (left c : ℕ) : Type 0 where
   pub small : notDegree h ≡ false
   pub good : GoodPath h path
+  pub point : c ≤ h .N
+  pub some : 0 < left
+  pub few : left ≤ 4
+  pub entries : (k : ℕ) → natAbs (getD net k (pos 0)) ≤ entryMost left
+
+-- when the sum over the rest of the choices may be added to an array, each choice weighed by `weight` too: there is a place
+-- for every sum, and none can leave its range
+pub record Ready (h : Head) (path : List ℤ) (row : List ℕ) (net : List ℤ) (left s weight : ℕ) (out : List ℤ) : Type 0 where
+  pub small : notDegree h ≡ false
+  pub good : GoodPath h path
+  pub binomials : (c : ℕ) → c ≤ h .N → getD row c 0 ≡ choose (h .N) c
   pub few : left ≤ 4
   pub room : s + left * h .N < length out
   pub entries : (k : ℕ) → natAbs (getD net k (pos 0)) ≤ entryMost left

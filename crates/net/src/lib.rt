@@ -9,7 +9,7 @@ ghost use Rattle.request.specs.Refusal.{notDegree, parameterPlace, uneven};
 ghost use Rattle.net.specs.Blossom.{alongU, alongV, within};
 ghost use Rattle.net.specs.Layout.{diagonal, further};
 ghost use Rattle.net.specs.Lowered.{Mixable, Bounded, entryOf, Steppable, Lowered};
-ghost use Rattle.net.specs.Gathered.{Weighs, GoodPath, argumentAt};
+ghost use Rattle.net.specs.Gathered.{Weighs, GoodPath, Turnable, Turned, Ready, Added, argumentAt, blossomMost, numeratorMost};
 use request::Head;
 use whole::Num;
 
@@ -160,4 +160,69 @@ fn shares_of(head: Head, path: &[i32], left: usize, c: usize) -> Shares
         return along_v(units::path_size_at(path, 2 * c + 1));
     }
     within(path, c)
+}
+
+// The net that point c makes where `left` arguments are still to be taken.
+fn turned(head: Head, path: &[i32], net: [i64; 15], left: usize, c: usize) -> [i64; 15]
+    requires { ⌜ Turnable head (now path) net left c ⌝ }
+    ensures { λ r. ⌜ Turned (argumentAt head (now (path .entry)) left c) net left r ⌝ }
+{
+    lower(net, shares_of(head, path, left, c), left)
+}
+
+// ---- the sum over all choices
+
+// The sum at place s so far.
+fn sum_at(out: &[i64], s: usize) -> Num
+    requires { ⌜ s < length (now out) ⌝ }
+    ensures { λ r. ⌜ r .0 ≡ getD (now (out .entry)) s (pos 0) ⌝ }
+{
+    Num(out[s])
+}
+
+fn put_sum(out: &mut [i64], s: usize, x: Num)
+    requires { ⌜ s < length (now out) ⌝ }
+    ensures { λ _. ⌜ now (out .exit) ≡ set (now (out .entry)) s (x .0) ⌝ }
+{
+    let v = x.0;
+    out[s] = v;
+}
+
+// Adds the one number that is left of a net, weighed, to place s.
+fn settle(net: &[i64; 15], s: usize, weight: u64, out: &mut [i64])
+    requires { ⌜ (s < length (now out)) × (weight ≤ 924) × (natAbs (getD (now net) 0 (pos 0)) ≤ blossomMost) × (natAbs (getD (now out) s (pos 0)) + weight * natAbs (getD (now net) 0 (pos 0)) ≤ numeratorMost) ⌝ }
+    ensures { λ _. ⌜ now (out .exit) ≡ set (now (out .entry)) s (getD (now (out .entry)) s (pos 0) +ℤ pos weight *ℤ getD (now (net .entry)) 0 (pos 0)) ⌝ }
+{
+    let value = whole::product(whole::plus(weight), at(net, 0));
+    let sum = whole::sum(sum_at(out, s), value);
+    put_sum(out, s, sum);
+}
+
+// The sum over all choices of points for the `left` arguments that are still to be taken, one argument at a time, so that
+// choices which begin alike share their nets: each finished blossom value is added, weighed, to the place of the numbers'
+// sum. `row` holds the binomials N over c.
+fn gather(
+    head: Head,
+    path: &[i32],
+    row: &[u64; 4],
+    net: [i64; 15],
+    left: usize,
+    s: usize,
+    weight: u64,
+    out: &mut [i64],
+)
+    requires { ⌜ Ready head (now path) (now row) net left s weight (now out) ⌝ }
+    ensures { λ _. ⌜ Added head (now (path .entry)) net left s weight (now (out .entry)) (now (out .exit)) ⌝ }
+{
+    if left == 0 {
+        settle(&net, s, weight, out);
+        return;
+    }
+    let n = head.N as usize;
+    let mut c = 0;
+    while c <= n {
+        let next = turned(head, path, net, left, c);
+        gather(head, path, row, next, left - 1, s + c, weight * row[c], out);
+        c += 1;
+    }
 }
