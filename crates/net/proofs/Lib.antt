@@ -8,10 +8,11 @@ pub mod Arguments
 pub mod Choices
 pub mod Literal
 pub mod Turns
+pub mod Whole
 pub mod Evaluation
 pub mod Bernstein
-pub mod Numerators
-pub mod Place
+pub mod Powers
+pub mod PathPlace
 pub mod Rounded
 pub mod Moment
 pub mod Readings

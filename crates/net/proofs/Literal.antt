@@ -23,7 +23,7 @@ use Rattle.net.specs.Blossom.{Argument, alongU, alongV, within, step, bl
 use Rattle.net.specs.Composed.{overChoices, total, weight, arguments, numerator}
 use Rattle.net.specs.Gathered.{argumentAt, gathered}
 use Rattle.net.proofs.Evaluation.{all, all-linear}
-use Rattle.net.proofs.Numerators.{sumTo-linear, choices-all, scale-cond}
+use Rattle.net.proofs.Powers.{sumTo-linear, choices-all, scale-cond}
 
 -- the arguments of a choice, each by how many were left when it was taken
 unfoldable pub argumentsFrom : (ℕ → ℕ → Argument) → List ℕ → List Argument

@@ -22,8 +22,8 @@ use Rattle.net.specs.Blossom.{Argument}
 use Rattle.net.specs.Composed.{arguments, numerator, denominator, point}
 use Rattle.net.specs.Reading.{bernstein, drawn, coordinate, scale, surfaceRead}
 use Rattle.net.proofs.Bernstein.{bernstein-cong-on}
-use Rattle.net.proofs.Numerators.{Reads}
-use Rattle.net.proofs.Place.{curve, tensor, triangle, balanced}
+use Rattle.net.proofs.Powers.{Reads}
+use Rattle.net.proofs.PathPlace.{curve, tensor, triangle, balanced}
 use Rattle.net.proofs.Rounded.{choose-some, parts-of, within-half}
 
 -- what is so of all three forms is so of the form that a request has

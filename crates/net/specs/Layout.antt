@@ -29,6 +29,13 @@ diagonal k = cond (ltb k 1) 0 (cond (ltb k 3) 1 (cond (ltb k 6) 2 (cond (ltb k 1
 unfoldable pub further : ℕ → ℕ
 further k = k + diagonal k + 1
 
+-- i and j of place k
+unfoldable pub rowOf : ℕ → ℕ
+rowOf k = k - before (diagonal k)
+
+unfoldable pub columnOf : ℕ → ℕ
+columnOf k = diagonal k - rowOf k
+
 -- "every blossom value is at most 2^52 in size": what a number of the net is at most where `left` of at most four
 -- arguments are still to be taken
 unfoldable pub entryMost : ℕ → ℕ

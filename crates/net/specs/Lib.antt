@@ -7,3 +7,4 @@ pub mod Reading
 pub mod Layout
 pub mod Lowered
 pub mod Gathered
+pub mod Loaded

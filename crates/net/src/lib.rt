@@ -2,10 +2,13 @@
 // in 15 numbers, (i, j) by its diagonal i + j (specs/Layout.antt).
 ghost use mathlib.Core.Path.{_≡_};
 ghost use mathlib.Core.Bool.{false};
-ghost use Prim.Native.Nat.{_+_, _*_, _^_, _≤_, _<_};
+ghost use Prim.Native.Nat.{ℕ, _+_, _*_, _-_, _^_, _≤_, _<_};
 ghost use lib.IntN.{pos, natAbs, _+ℤ_, _*ℤ_};
 ghost use lib.ListN.{length, getD, set};
-ghost use Rattle.request.specs.Refusal.{notDegree, parameterPlace, uneven};
+ghost use Rattle.request.specs.Refusal.{notDegree, valuePlace, parameterPlace, uneven};
+ghost use Rattle.whole.specs.Choose.{choose};
+ghost use Rattle.net.specs.Net.{rowStart, placeOf};
+ghost use Rattle.net.specs.Loaded.{loadedAt, Loaded, Composable, Numerators};
 ghost use Rattle.net.specs.Blossom.{alongU, alongV, within};
 ghost use Rattle.net.specs.Layout.{diagonal, further};
 ghost use Rattle.net.specs.Lowered.{Mixable, Bounded, entryOf, Steppable, Lowered};
@@ -225,4 +228,92 @@ fn gather(
         gather(head, path, row, next, left - 1, s + c, weight * row[c], out);
         c += 1;
     }
+}
+
+// ---- from a request to its numerators
+
+// Where row i of a triangular surface of degree n begins.
+fn row_start(n: usize, i: usize) -> usize
+    requires { ⌜ (n ≤ 4) × (i ≤ 4) ⌝ }
+    ensures { λ r. ⌜ (r ≡ rowStart n i) × (r ≤ 20) ⌝ }
+{
+    let mut start = 0;
+    let mut t = 0;
+    while t < i {
+        start += row_length(n, t);
+        t += 1;
+    }
+    start
+}
+
+// How many control values row i has, and one past the last row.
+fn row_length(n: usize, i: usize) -> usize
+    requires { ⌜ n ≤ 4 ⌝ }
+    ensures { λ r. ⌜ r ≡ n - i + 1 ⌝ }
+{
+    if i < n { n - i + 1 } else { 1 }
+}
+
+// Where the control value of (i, j) stands.
+fn place(head: Head, i: usize, j: usize) -> usize
+    requires { ⌜ (notDegree head ≡ false) × (i ≤ 4) × (j ≤ 4) ⌝ }
+    ensures { λ r. ⌜ r ≡ placeOf head i j ⌝ }
+{
+    if head.form == 1 {
+        return i;
+    }
+    if head.form == 2 {
+        return i * (head.second as usize + 1) + j;
+    }
+    row_start(head.first as usize, i) + j
+}
+
+// The control value that is held at place k.
+fn loaded_at(head: Head, surface: &[i32], k: usize) -> Num
+    requires { ⌜ (notDegree head ≡ false) × (k < 15) ⌝ }
+    ensures { λ r. ⌜ r .0 ≡ loadedAt head (now (surface .entry)) k ⌝ }
+{
+    let s = diagonal(k);
+    let i = k - s * (s + 1) / 2;
+    units::units_of(units::travel_at(surface, place(head, i, s - i)))
+}
+
+// The net of degree r that a surface is.
+fn load(head: Head, surface: &[i32], r: usize) -> [i64; 15]
+    requires { ⌜ (notDegree head ≡ false) × (valuePlace (now surface) ≡ length (now surface)) × (r ≤ 4) ⌝ }
+    ensures { λ n. ⌜ Loaded head (now (surface .entry)) r n ⌝ }
+{
+    let mut net = [0i64; 15];
+    let count = (r + 1) * (r + 2) / 2;
+    let mut k = 0;
+    while k < count {
+        put(&mut net, k, loaded_at(head, surface, k));
+        k += 1;
+    }
+    net
+}
+
+// The binomials N over c, copied once for a ride.
+fn binomials(n: usize) -> [u64; 4]
+    requires { ⌜ n ≤ 3 ⌝ }
+    ensures { λ r. ⌜ ((c : ℕ) → c ≤ 3 → getD r c 0 ≡ choose n c) ⌝ }
+{
+    let a = pascal::binomial(n, 0);
+    let b = pascal::binomial(n, 1);
+    let c = pascal::binomial(n, 2);
+    let d = pascal::binomial(n, 3);
+    [a, b, c, d]
+}
+
+// The exact numerators of a request that document 01 accepts.
+pub fn numerators(head: Head, surface: &[i32], path: &[i32]) -> [i64; 13]
+    requires { ⌜ Composable (record { head = head; surface = now surface; path = now path }) ⌝ }
+    ensures { λ r. ⌜ Numerators (record { head = head; surface = now (surface .entry); path = now (path .entry) }) r ⌝ }
+{
+    let r = request::degree(head) as usize;
+    let net = load(head, surface, r);
+    let row = binomials(head.N as usize);
+    let mut out = [0i64; 13];
+    gather(head, path, &row, net, r, 0, 1, &mut out);
+    out
 }

@@ -17,7 +17,7 @@ use Rattle.net.proofs.Steps.{Weights, weightsOf, taken}
 use Rattle.net.proofs.Evaluation.{summed, one-group, two-groups}
 use Rattle.net.proofs.Bernstein.{bernstein-is, bernstein-const, bernstein-cong, bernstein-cong-on, bernstein-linear, bernstein-through}
 use Rattle.net.proofs.Bernstein.{again, taken-again, taken-only, along-i, along-j, over-triangle}
-use Rattle.net.proofs.Numerators.{sumTo-linear, factor, Reads, numerators}
+use Rattle.net.proofs.Powers.{sumTo-linear, factor, Reads, numerators}
 
 module _ (N : ℕ) (a b : ℤ) where
   place : (f : ℕ → ℤ) → sumTo N (λ c. factor N a b c ⊗ f c) ≡ bernstein N a b f
