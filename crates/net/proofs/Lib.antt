@@ -8,6 +8,7 @@ pub mod Arguments
 pub mod Choices
 pub mod Literal
 pub mod Turns
+pub mod Bounds
 pub mod Whole
 pub mod Evaluation
 pub mod Bernstein

@@ -73,5 +73,4 @@ module _ (rq : Request) (net : List ℤ) (r : ℕ) (fine : Composable rq) (e : r
   finished out added = record {
     long = added .long;
     each = λ R m. added .each R (let b = L-most in let c : R ≤ r * rq .head .N = rw e m in omega arith) ∙ rw (zeros 13 R) (once _) ∙ whole-net R;
-    most = λ R. rw (← e) (let m = rw (zeros 13 R, from-zero R) at (added .most R) in omega arith);
   }

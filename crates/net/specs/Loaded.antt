@@ -5,7 +5,6 @@ use mathlib.Core.List.{List}
 use Prim.Native.Nat.{ℕ, _+_, _*_, _≤_}
 use lib.IntN.{ℤ, pos, natAbs}
 use lib.ListN.{length, getD}
-use Rattle.whole.specs.Choose.{choose}
 use Rattle.request.specs.declared.Head.{Head}
 use Rattle.request.specs.Head.{longest}
 use Rattle.request.specs.Request.{Request}
@@ -13,7 +12,7 @@ use Rattle.request.specs.Refusal.{notDegree, valuePlace}
 use Rattle.net.specs.Net.{placeOf}
 use Rattle.net.specs.Composed.{numerator}
 use Rattle.net.specs.Layout.{held, rowOf, columnOf}
-use Rattle.net.specs.Gathered.{GoodPath, blossomMost}
+use Rattle.net.specs.Gathered.{GoodPath}
 
 -- the control value of place k's (i, j)
 unfoldable pub loadedAt : Head → List ℤ → ℕ → ℤ
@@ -30,8 +29,7 @@ pub record Composable (rq : Request) : Type 0 where
   pub travels : valuePlace (rq .surface) ≡ length (rq .surface)
   pub good : GoodPath (rq .head) (rq .path)
 
--- "Inside these every blossom value is at most 2^52 in size" and every numerator at most that times its binomial
+-- the numerators of a request, at 0 to L
 pub record Numerators (rq : Request) (out : List ℤ) : Type 0 where
   pub long : length out ≡ 13
   pub each : (R : ℕ) → R ≤ longest (rq .head) → getD out R (pos 0) ≡ numerator rq R
-  pub most : (R : ℕ) → natAbs (getD out R (pos 0)) ≤ choose (longest (rq .head)) R * blossomMost
