@@ -48,3 +48,28 @@ accepts rq exactRoom pointsRoom zero-is =
       balance = h .0;
       answered = rw (a .0, b .0, c .0, d .0, e .0, f .0, g .0, h .0);
     }
+
+-- an answer is an acceptance or has count 0
+pub record Fixed (a : Answer) : Type 0 where
+  pub none : (a .number ≡ 0 → ⊥) → a .count ≡ 0
+
+kept : (test : Bool) (number place : ℕ) (next : Answer) → Fixed next → Fixed (cond test (refused (suc number) place) next)
+unfolding refused
+kept true number place next f = record { none = λ n. refl }
+kept false number place next f = f
+
+fixed : (rq : Request) (exactRoom pointsRoom : ℕ) → Fixed (answer rq exactRoom pointsRoom)
+unfolding answer answerNumbers accepted
+fixed rq exactRoom pointsRoom =
+    kept (notKind (rq .head)) 0 0 _
+    (kept (notDegree (rq .head)) 1 0 _
+    (kept (notSurface rq) 2 0 _
+    (kept (notPath rq) 3 0 _
+    (kept (notRoom (rq .head) exactRoom pointsRoom) 4 0 _
+    (kept (notValue rq) 5 (valuePlace (rq .surface)) _
+    (kept (notParameter rq) 6 (parameterPlace (rq .path)) _
+    (kept (notBalance rq) 7 (balancePlace (rq .path) (rq .head .N)) _
+    (record { none = λ n. absurd (n refl) }))))))))
+
+pub refused-none : (rq : Request) (exactRoom pointsRoom : ℕ) → (answer rq exactRoom pointsRoom .number ≡ 0 → ⊥) → answer rq exactRoom pointsRoom .count ≡ 0
+refused-none rq exactRoom pointsRoom = fixed rq exactRoom pointsRoom .none

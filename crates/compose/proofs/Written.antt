@@ -1,9 +1,12 @@
 -- "The first L+1 places of each are written": what stands afterwards at a place below the count. Assumes nothing.
-use mathlib.Core.Path.{_≡_, refl}
-use mathlib.Core.List.{List, _++_}
-use Prim.Native.Nat.{ℕ, zero, suc, _<_}
+use mathlib.Core.Path.{_≡_, refl, ap}
+use mathlib.Core.List.{List, [], _∷_, _++_, append-assoc}
+use Prim.Native.Nat.{ℕ, zero, suc, _+_, _≤_, _<_, suc-le-suc}
 use native.Mathlib.Nat.{le-of-suc-le-suc, not-suc-le-zero}
-use lib.ListN.{getD, drop}
+use native.Mathlib.Numerals.{add-one}
+use native.Mathlib.Omega.{arith}
+use lib.ListN.{length, getD, drop, set, length-append, length-drop}
+use lib.Seq.{drop-cons, set-at}
 use Rattle.compose.specs.Afterwards.{listBelow, afterwards}
 
 below-at {ℓ} : {A : Type ℓ} (n : ℕ) (f : ℕ → A) (tail : List A) (i : ℕ) (d : A) → i < n → getD (listBelow n f ++ tail) i d ≡ f i
@@ -15,3 +18,41 @@ below-at (suc n) f tail (suc i) d h = below-at n (λ k. f (suc k)) tail i d (le-
 pub afterwards-at {ℓ} : {A : Type ℓ} (count : ℕ) (f : ℕ → A) (lent : List A) (i : ℕ) (d : A) → i < count → getD (afterwards count f lent) i d ≡ f i
 unfolding afterwards
 afterwards-at count f lent i d h = below-at count f (drop count lent) i d h
+
+-- the places below a number, one more at the end
+below-last {ℓ} : {A : Type ℓ} (n : ℕ) (f : ℕ → A) → listBelow (suc n) f ≡ listBelow n f ++ (f n ∷ [])
+unfolding listBelow
+below-last zero f = refl
+below-last (suc n) f = ap (λ l. f 0 ∷ l) (below-last n (λ k. f (suc k)))
+
+below-length {ℓ} : {A : Type ℓ} (n : ℕ) (f : ℕ → A) → length (listBelow n f) ≡ n
+unfolding listBelow
+below-length zero f = refl
+below-length (suc n) f = ap suc (below-length n (λ k. f (suc k)))
+
+-- nothing is written yet
+pub afterwards-none {ℓ} : {A : Type ℓ} (f : ℕ → A) (lent : List A) → afterwards 0 f lent ≡ lent
+unfolding afterwards listBelow
+afterwards-none f lent = refl
+
+-- one more place is written
+pub afterwards-more : {A : Type 0} (k : ℕ) (f : ℕ → A) (lent : List A) (v : A) → k < length lent → v ≡ f k
+    → set (afterwards k f lent) k v ≡ afterwards (k + 1) f lent
+unfolding afterwards
+afterwards-more k f lent v m e =
+    rw (add-one k, e, drop-cons lent k v m, below-last k f, append-assoc)
+    (set-at (listBelow k f) (getD lent k v) (drop (suc k) lent) (f k) k (below-length k f))
+
+pub afterwards-length {ℓ} : {A : Type ℓ} (k : ℕ) (f : ℕ → A) (lent : List A) → k ≤ length lent → length (afterwards k f lent) ≡ length lent
+unfolding afterwards
+afterwards-length k f lent m = rw (length-append, below-length k f, length-drop) (omega arith)
+
+-- what is written is all that counts
+below-same {ℓ} : {A : Type ℓ} (n : ℕ) (f g : ℕ → A) → ((i : ℕ) → i < n → f i ≡ g i) → listBelow n f ≡ listBelow n g
+unfolding listBelow
+below-same zero f g e = refl
+below-same (suc n) f g e = rw (e 0 (omega arith)) (ap (λ l. g 0 ∷ l) (below-same n (λ k. f (suc k)) (λ k. g (suc k)) (λ i m. e (suc i) (suc-le-suc m))))
+
+pub afterwards-same {ℓ} : {A : Type ℓ} (k : ℕ) (f g : ℕ → A) (lent : List A) → ((i : ℕ) → i < k → f i ≡ g i) → afterwards k f lent ≡ afterwards k g lent
+unfolding afterwards
+afterwards-same k f g lent e = ap (λ l. l ++ drop k lent) (below-same k f g e)

@@ -1,1 +1,126 @@
-// The composer.
+// The lean curve composer: document 01's public entry. A request is judged whole before anything is written; an accepted
+// one has its exact numerators and its rounded points written to the two lent arrays.
+ghost use mathlib.Core.Path.{_≡_};
+ghost use Prim.Native.Nat.{_+_, _*_, _-_, _^_, _≤_, _<_};
+ghost use lib.IntN.{pos, natAbs};
+ghost use lib.ListN.{length, getD, set};
+ghost use Rattle.compose.specs.Afterwards.{afterwards};
+ghost use Rattle.compose.specs.Contract.{requestOf, Composed, roundedAt, Roundable, AllRoundable};
+use request::Answer;
+use request::Head;
+use units::Travel;
+use whole::Num;
+
+// Numerator R of thirteen.
+fn numerator_at(from: &[i64; 13], R: usize) -> Num
+    requires { ⌜ R < 13 ⌝ }
+    ensures { λ r. ⌜ r .0 ≡ getD (now (from .entry)) R (pos 0) ⌝ }
+{
+    Num(from[R])
+}
+
+fn put_exact(exact: &mut [i64], R: usize, x: Num)
+    requires { ⌜ R < length (now exact) ⌝ }
+    ensures { λ _. ⌜ now (exact .exit) ≡ set (now (exact .entry)) R (x .0) ⌝ }
+{
+    let v = x.0;
+    exact[R] = v;
+}
+
+fn put_point(points: &mut [i32], R: usize, t: Travel)
+    requires { ⌜ R < length (now points) ⌝ }
+    ensures { λ _. ⌜ now (points .exit) ≡ set (now (points .entry)) R (t .0) ⌝ }
+{
+    let v = t.0;
+    points[R] = v;
+}
+
+// 1024^r
+fn scale(r: usize) -> u64
+    requires { ⌜ r ≤ 4 ⌝ }
+    ensures { λ s. ⌜ s ≡ 1024 ^ r ⌝ }
+{
+    if r == 0 {
+        return 1;
+    }
+    if r == 1 {
+        return 1024;
+    }
+    if r == 2 {
+        return 1048576;
+    }
+    if r == 3 {
+        return 1073741824;
+    }
+    1099511627776
+}
+
+// The rounded point at R of a curve of degree L whose numerators are over binomial(L, R) times `scale`.
+fn rounded(from: &[i64; 13], L: usize, scale: u64, R: usize) -> Travel
+    requires { ⌜ Roundable (now from) L scale R ⌝ }
+    ensures { λ t. ⌜ t .0 ≡ roundedAt (now (from .entry)) L scale R ⌝ }
+{
+    let d = pascal::binomial(L, R) * scale;
+    units::travel_of(whole::nearest(numerator_at(from, R), d))
+}
+
+// Writes the first `count` numerators.
+fn write_exact(from: &[i64; 13], count: usize, exact: &mut [i64])
+    requires { ⌜ (count ≤ 13) × (count ≤ length (now exact)) ⌝ }
+    ensures { λ _. ⌜ now (exact .exit) ≡ afterwards count (λ R. getD (now (from .entry)) R (pos 0)) (now (exact .entry)) ⌝ }
+{
+    let mut R = 0;
+    while R < count {
+        put_exact(exact, R, numerator_at(from, R));
+        R += 1;
+    }
+}
+
+// Writes the first `count` points, rounded.
+fn write_points(from: &[i64; 13], scale: u64, count: usize, points: &mut [i32])
+    requires { ⌜ (0 < count) × (count ≤ length (now points)) × AllRoundable (now from) count scale ⌝ }
+    ensures { λ _. ⌜ now (points .exit) ≡ afterwards count (roundedAt (now (from .entry)) (count - 1) scale) (now (points .entry)) ⌝ }
+{
+    let mut R = 0;
+    while R < count {
+        put_point(points, R, rounded(from, count - 1, scale, R));
+        R += 1;
+    }
+}
+
+// Composes a surface and a path. The answer is a number, a place and a count: 0, 0, L+1 where the request is accepted, and
+// then the first L+1 places of both arrays are written; else the refusal's number and place and count 0, and both arrays
+// are as they were.
+pub fn compose(
+    form: u32,
+    first: u32,
+    second: u32,
+    N: u32,
+    surface: &[i32],
+    path: &[i32],
+    exact: &mut [i64],
+    points: &mut [i32],
+) -> Answer
+    ensures { λ a. ⌜ Composed (requestOf form first second N (now (surface .entry)) (now (path .entry))) (now (exact .entry)) (now (points .entry)) a (now (exact .exit)) (now (points .exit)) ⌝ }
+{
+    let head = Head {
+        form,
+        first,
+        second,
+        N,
+    };
+    let answer = request::judge(head, surface, path, exact.len(), points.len());
+    if answer.number != 0 {
+        return answer;
+    }
+    let count = answer.count;
+    let numerators = net::numerators(head, surface, path);
+    write_exact(&numerators, count, exact);
+    write_points(
+        &numerators,
+        scale(request::degree(head) as usize),
+        count,
+        points,
+    );
+    answer
+}

@@ -48,3 +48,11 @@ uneven-is path c e = ap not (sums _ _ _ (path-numbers path e (3 * c)) (path-numb
 pub even-points : (path : List ℤ) (N : ℕ) → balancePlace path N ≡ N + 1 → (c : ℕ) → c ≤ N → uneven path c ≡ false
 unfolding balancePlace
 even-points path N e c m = least-before (N + 1) (uneven path) c (rw e (omega arith))
+
+pub value-most : (surface : List ℤ) → valuePlace surface ≤ length surface
+unfolding valuePlace
+value-most surface = least-le (length surface) (λ k. beyondTravel (getD surface k (pos 0)))
+
+pub balance-most : (path : List ℤ) (N : ℕ) → balancePlace path N ≤ N + 1
+unfolding balancePlace
+balance-most path N = least-le (N + 1) (uneven path)

@@ -64,7 +64,7 @@ unfolding notDegree degree
 small-outer h no2 f n =
     rw (at-outer h (h .first) (h .first + h .second) no2, at-outer h (not (eqb (h .second) 0)) false no2, le-ltb 4 (h .first) f, le-ltb 3 (h .N) n)
 
-or-none : (a b : Bool) → (a || b) ≡ false → (a ≡ false) × (b ≡ false)
+pub or-none : (a b : Bool) → (a || b) ≡ false → (a ≡ false) × (b ≡ false)
 or-none true b e = (e, cc)
 or-none false b e = (refl, e)
 

@@ -1,9 +1,10 @@
 // The two kinds of number of a ride, each a type of its own, so that one is never taken for the other: a path number in
 // 1/1024 and a travel in 0.01 mm. Their bounds, and how each is read from a lent slice and turned into a whole number.
 ghost use mathlib.Core.Path.{_≡_};
+ghost use Prim.Native.Nat.{_≤_};
 ghost use lib.IntN.{pos, natAbs};
 ghost use lib.ListN.{getD};
-ghost use Rattle.units.specs.Bounds.{beyondTravel, beyondPath};
+ghost use Rattle.units.specs.Bounds.{beyondTravel, beyondPath, most};
 use whole::Num;
 
 // A place along the path's own numbers: 1024 is one.
@@ -75,4 +76,12 @@ pub fn path_size_at(path: &[i32], k: usize) -> u64
     ensures { λ r. ⌜ r ≡ natAbs (getD (now (path .entry)) k (pos 0)) ⌝ }
 {
     size_of(path_number_at(path, k))
+}
+
+// The travel of a whole number of 0.01 mm.
+pub fn travel_of(n: Num) -> Travel
+    requires { ⌜ natAbs (n .0) ≤ most ⌝ }
+    ensures { λ t. ⌜ t .0 ≡ n .0 ⌝ }
+{
+    Travel(n.0 as i32)
 }

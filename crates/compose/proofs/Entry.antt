@@ -1,0 +1,105 @@
+-- What the entry does with an answer: a refusal leaves both arrays, an acceptance writes the numerators and the rounded
+-- points. Assumes nothing.
+use mathlib.Core.Path.{_≡_, refl, sym, ap, _∙_}
+use mathlib.Core.List.{List}
+use Prim.Native.Nat.{ℕ, zero, suc, _+_, _*_, _-_, _^_, _≤_, _<_}
+use native.Mathlib.Nat.{mul-le-mul}
+use native.Mathlib.Omega.{arith}
+use lib.IntN.{ℤ, pos, natAbs}
+use lib.Dec.{lit≤}
+use lib.ListN.{length, getD}
+use borrow.Author.Tests.{ltb-false}
+use Rattle.whole.specs.Round.{nearest}
+use Rattle.whole.specs.Choose.{choose}
+use Rattle.request.specs.declared.Answer.{Answer}
+use Rattle.request.specs.Head.{degree, longest}
+use Rattle.request.specs.Request.{Request}
+use Rattle.request.specs.Refusal.{answer, accepted, valuePlace, parameterPlace, balancePlace, notValue, notParameter, notBalance, notRoom}
+use Rattle.request.proofs.Forms.{small, degree-most, at-triangle, or-none}
+use Rattle.request.proofs.Bounds.{parameter-most, value-most, balance-most}
+use Rattle.net.specs.Composed.{numerator, denominator, point}
+use Rattle.net.specs.Gathered.{GoodPath}
+use Rattle.net.specs.Loaded.{Composable, Numerators}
+use Rattle.net.proofs.Bounds.{point-size}
+use Rattle.compose.specs.Afterwards.{afterwards, exactAfter, pointsAfter}
+use Rattle.compose.specs.Contract.{Composed, roundedAt, AllRoundable}
+use Rattle.compose.proofs.Acceptance.{Accepted, accepts, refused-none}
+use Rattle.compose.proofs.Written.{afterwards-none, afterwards-same}
+
+scale-most : (r : ℕ) → r ≤ 4 → 1024 ^ r ≤ 1024 ^ 4
+scale-most zero m = lit≤ tt
+scale-most (suc zero) m = lit≤ tt
+scale-most (suc (suc zero)) m = lit≤ tt
+scale-most (suc (suc (suc zero))) m = lit≤ tt
+scale-most (suc (suc (suc (suc zero)))) m = lit≤ tt
+scale-most (suc (suc (suc (suc (suc r))))) m = absurd (omega arith)
+
+-- a refusal leaves everything as it was
+pub refused-result : (rq : Request) (exact points : List ℤ) (a : Answer) → a ≡ answer rq (length exact) (length points) → (a .number ≡ 0 → ⊥)
+    → Composed rq exact points a exact points
+unfolding exactAfter pointsAfter
+refused-result rq exact points a e some =
+    let none : answer rq (length exact) (length points) .count ≡ 0 = refused-none rq (length exact) (length points) (rw e at some) in
+    record { answered = e; exact-is = rw none (sym (afterwards-none _ exact)); points-is = rw none (sym (afterwards-none _ points)) }
+
+-- what acceptance leaves of a request
+pub composable : (rq : Request) (e p : ℕ) → Accepted rq e p → Composable rq
+unfolding notValue notParameter notBalance
+composable rq e p f =
+    let v : length (rq .surface) ≤ valuePlace (rq .surface) = ltb-false _ _ (f .value) in
+    let m : length (rq .path) ≤ parameterPlace (rq .path) = ltb-false _ _ (f .parameter) in
+    record {
+      small = f .degrees;
+      travels = let b = value-most (rq .surface) in omega arith;
+      good = record {
+        numbers = let b = parameter-most (rq .path) in omega arith;
+        even = λ no1 no2.
+            let w : rq .head .N + 1 ≤ balancePlace (rq .path) (rq .head .N) = ltb-false _ _ (sym (at-triangle (rq .head) _ _ _ no1 no2) ∙ f .balance) in
+            let b = balance-most (rq .path) (rq .head .N) in
+            omega arith;
+      };
+    }
+
+pub record Room (rq : Request) (e p count : ℕ) : Type 0 where
+  pub is : count ≡ longest (rq .head) + 1
+  pub most : count ≤ 13
+  pub exact-room : count ≤ e
+  pub points-room : count ≤ p
+
+pub room-for : (rq : Request) (e p : ℕ) (a : Answer) → a ≡ answer rq e p → a .number ≡ 0 → Room rq e p (a .count)
+unfolding accepted notRoom longest
+room-for rq e p a eq number =
+    let f = accepts rq e p (ap (λ (b : Answer). b .number) (sym eq) ∙ number) in
+    let is : a .count ≡ degree (rq .head) * rq .head .N + 1 = ap (λ (b : Answer). b .count) (eq ∙ f .answered) in
+    let L : degree (rq .head) * rq .head .N ≤ 4 * 3 = mul-le-mul (degree-most (rq .head) (f .degrees)) (small (rq .head) (f .degrees) .N-most) in
+    let r = or-none _ _ (f .room) in
+    let x : longest (rq .head) + 1 ≤ e = ltb-false _ _ (r .0) in
+    let y : longest (rq .head) + 1 ≤ p = ltb-false _ _ (r .1) in
+    record { is = is; most = omega arith; exact-room = omega arith; points-room = omega arith }
+
+module _ (rq : Request) (nums : List ℤ) (scale count : ℕ) (fine : Composable rq) (n : Numerators rq nums) (s : scale ≡ 1024 ^ degree (rq .head)) (c : count ≡ longest (rq .head) + 1) where
+  -- what is rounded is the rounded point
+  rounds : (R : ℕ) → R < count → roundedAt nums (count - 1) scale R ≡ point rq R
+  unfolding roundedAt point denominator
+  rounds R m =
+      let l : count - 1 ≡ longest (rq .head) = omega arith in
+      rw (n .each R (omega arith), l, s)
+
+  pub all-roundable : count ≤ 13 → AllRoundable nums count scale
+  all-roundable m = record {
+    row = m;
+    few = rw s (scale-most (degree (rq .head)) (degree-most (rq .head) (fine .small)));
+    most = λ R l. rw (rounds R l) (point-size rq fine R (omega arith));
+  }
+
+  pub accepted-result : (exact points : List ℤ) (a : Answer) → a ≡ answer rq (length exact) (length points) → a .count ≡ count → (exact′ points′ : List ℤ)
+      → exact′ ≡ afterwards count (λ R. getD nums R (pos 0)) exact → points′ ≡ afterwards count (roundedAt nums (count - 1) scale) points
+      → Composed rq exact points a exact′ points′
+  unfolding exactAfter pointsAfter
+  accepted-result exact points a e k exact′ points′ f g =
+      let t : answer rq (length exact) (length points) .count ≡ count = ap (λ (b : Answer). b .count) (sym e) ∙ k in
+      record {
+        answered = e;
+        exact-is = f ∙ afterwards-same count _ (numerator rq) exact (λ R m. n .each R (omega arith)) ∙ ap (λ i. afterwards i (numerator rq) exact) (sym t);
+        points-is = g ∙ afterwards-same count _ (point rq) points rounds ∙ ap (λ i. afterwards i (point rq) points) (sym t);
+      }

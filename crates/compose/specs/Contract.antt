@@ -1,0 +1,40 @@
+-- The composer's contract: three equations that fix the answer and every place of both arrays, for every input.
+-- Assumes nothing.
+use mathlib.Core.Path.{_≡_}
+use mathlib.Core.List.{List}
+use Prim.Native.Nat.{ℕ, _*_, _-_, _^_, _≤_, _<_}
+use lib.IntN.{ℤ, pos, natAbs}
+use lib.ListN.{length, getD}
+use Rattle.whole.specs.Choose.{choose}
+use Rattle.whole.specs.Round.{nearest}
+use Rattle.request.specs.declared.Answer.{Answer}
+use Rattle.request.specs.Request.{Request}
+use Rattle.request.specs.Refusal.{answer}
+use Rattle.compose.specs.Afterwards.{exactAfter, pointsAfter}
+
+-- the request that the entry's first six arguments are
+unfoldable pub requestOf : ℕ → ℕ → ℕ → ℕ → List ℤ → List ℤ → Request
+requestOf form first second N surface path =
+    record { head = record { form = form; first = first; second = second; N = N }; surface = surface; path = path }
+
+-- exact and points are the arrays as they were lent
+pub record Composed (rq : Request) (exact points : List ℤ) (a : Answer) (exact′ points′ : List ℤ) : Type 0 where
+  pub answered : a ≡ answer rq (length exact) (length points)
+  pub exact-is : exact′ ≡ exactAfter rq exact points
+  pub points-is : points′ ≡ pointsAfter rq exact points
+
+-- numerator R over binomial(L, R) times the scale, rounded
+unfoldable pub roundedAt : List ℤ → ℕ → ℕ → ℕ → ℤ
+roundedAt from L scale R = nearest (getD from R (pos 0)) (choose L R * scale)
+
+-- when that is a travel
+pub record Roundable (from : List ℤ) (L scale R : ℕ) : Type 0 where
+  pub row : L ≤ 12
+  pub here : R ≤ L
+  pub few : scale ≤ 1024 ^ 4
+  pub most : natAbs (roundedAt from L scale R) ≤ 4096
+
+pub record AllRoundable (from : List ℤ) (count scale : ℕ) : Type 0 where
+  pub row : count ≤ 13
+  pub few : scale ≤ 1024 ^ 4
+  pub most : (R : ℕ) → R < count → natAbs (roundedAt from (count - 1) scale R) ≤ 4096
