@@ -1,12 +1,12 @@
 -- "The first L+1 places of each are written": what stands afterwards at a place below the count. Assumes nothing.
-use mathlib.Core.Path.{_≡_, refl, ap}
+use mathlib.Core.Path.{_≡_, refl, ap, _∙_}
 use mathlib.Core.List.{List, [], _∷_, _++_, append-assoc}
-use Prim.Native.Nat.{ℕ, zero, suc, _+_, _≤_, _<_, suc-le-suc}
+use Prim.Native.Nat.{ℕ, zero, suc, _+_, _-_, _≤_, _<_, suc-le-suc}
 use native.Mathlib.Nat.{le-of-suc-le-suc, not-suc-le-zero}
 use native.Mathlib.Numerals.{add-one}
 use native.Mathlib.Omega.{arith}
 use lib.ListN.{length, getD, drop, set, length-append, length-drop}
-use lib.Seq.{drop-cons, set-at}
+use lib.Seq.{drop-cons, set-at, getD-append-add, getD-drop}
 use Rattle.compose.specs.Afterwards.{listBelow, afterwards}
 
 below-at {ℓ} : {A : Type ℓ} (n : ℕ) (f : ℕ → A) (tail : List A) (i : ℕ) (d : A) → i < n → getD (listBelow n f ++ tail) i d ≡ f i
@@ -56,3 +56,11 @@ below-same (suc n) f g e = rw (e 0 (omega arith)) (ap (λ l. g 0 ∷ l) (below-s
 pub afterwards-same {ℓ} : {A : Type ℓ} (k : ℕ) (f g : ℕ → A) (lent : List A) → ((i : ℕ) → i < k → f i ≡ g i) → afterwards k f lent ≡ afterwards k g lent
 unfolding afterwards
 afterwards-same k f g lent e = ap (λ l. l ++ drop k lent) (below-same k f g e)
+
+-- a place past what is written stays
+pub afterwards-past {ℓ} : {A : Type ℓ} (k : ℕ) (f : ℕ → A) (lent : List A) (i : ℕ) (d : A) → k ≤ i → getD (afterwards k f lent) i d ≡ getD lent i d
+unfolding afterwards
+afterwards-past k f lent i d m =
+    let e : i ≡ length (listBelow k f) + (i - k) = omega (arith, below-length k f) in
+    let g : k + (i - k) ≡ i = omega arith in
+    ap (λ n. getD (listBelow k f ++ drop k lent) n d) e ∙ getD-append-add (listBelow k f) (drop k lent) (i - k) d ∙ getD-drop k lent (i - k) d ∙ ap (λ n. getD lent n d) g

@@ -3,3 +3,4 @@ pub mod Forms
 pub mod Least
 pub mod Bounds
 pub mod Verdict
+pub mod Ordered

@@ -2,3 +2,4 @@
 pub mod Head
 pub mod Request
 pub mod Refusal
+pub mod Order

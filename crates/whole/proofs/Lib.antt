@@ -7,3 +7,4 @@ pub mod Bits
 pub mod Rounding
 pub mod Halves
 pub mod Fill
+pub mod Determined

@@ -1,0 +1,119 @@
+-- The three demands on the lean curve, each of every result that the composer's contract allows, and determinacy. What the
+-- contract allows is in Rattle.compose.specs.Contract, document 01's words are in the definitions that are cited here.
+-- Assumes nothing.
+use mathlib.Core.Path.{_≡_, refl, sym, ap, _∙_}
+use mathlib.Core.Bool.{cond}
+use mathlib.Core.List.{List}
+use Prim.Native.Nat.{ℕ, _+_, _*_, _^_, _≤_, _<_}
+use native.Mathlib.Omega.{arith}
+use lib.IntN.{ℤ, pos, natAbs, _-ℤ_, _*ℤ_}
+use lib.Dec.{eqb}
+use lib.ListN.{length, getD}
+use Rattle.whole.specs.Round.{nearest}
+use Rattle.whole.specs.Choose.{choose}
+use Rattle.whole.proofs.Determined.{Determined}
+use Rattle.request.specs.declared.Answer.{Answer}
+use Rattle.request.specs.Head.{degree, longest}
+use Rattle.request.specs.Request.{Request}
+use Rattle.request.specs.Refusal.{answer, accepted}
+use Rattle.request.specs.Order.{tests, first, placeFor}
+use Rattle.request.proofs.Ordered.{ordered}
+use Rattle.net.specs.Composed.{numerator, denominator, point}
+use Rattle.net.specs.Reading.{drawn, surfaceRead}
+use Rattle.compose.specs.Afterwards.{exactAfter, pointsAfter, afterwards}
+use Rattle.compose.specs.Contract.{Composed}
+use Rattle.compose.proofs.Acceptance.{accepts, refused-none}
+use Rattle.compose.proofs.Written.{afterwards-none, afterwards-at, afterwards-past}
+use Rattle.compose.proofs.Demand3.{demand3 as at-every-moment}
+
+-- what the composer leaves: its answer and both arrays
+pub record Result : Type 0 where
+  pub answer : Answer
+  pub exact : List ℤ
+  pub points : List ℤ
+
+-- the results that the contract allows, for a request and the two arrays as they were lent
+abbrev pub Allowed : Request → List ℤ → List ℤ → Result → Type 0
+Allowed rq exact points r = Composed rq exact points (r .answer) (r .exact) (r .points)
+
+-- Determinacy. Any two results that the contract allows are equal (`any-two` of Rattle.whole.proofs.Determined).
+pub determined : (rq : Request) (exact points : List ℤ) → Determined (Allowed rq exact points)
+determined rq exact points = record {
+  value = record { answer = answer rq (length exact) (length points); exact = exactAfter rq exact points; points = pointsAfter rq exact points };
+  only = λ r c. λ t. record { answer = c .answered t; exact = c .exact-is t; points = c .points-is t };
+}
+
+-- Demand 1. The composition ends (that is the checker's own promise of every function). The number is that of the first
+-- of the eight tests that holds, in document 01's order, or 0; the place is the least bad index or point; a refusal's count
+-- is 0 and it leaves both arrays as they were. (`first-exact` of Rattle.request.proofs.Ordered: number n exactly where test
+-- n holds and none before it does.)
+pub record Demand1 (rq : Request) (exact points : List ℤ) (r : Result) : Type 0 where
+  pub number : r .answer .number ≡ first (tests rq (length exact) (length points))
+  pub place : r .answer .place ≡ placeFor rq (r .answer .number)
+  pub count : r .answer .count ≡ cond (eqb (r .answer .number) 0) (longest (rq .head) + 1) 0
+  pub exact-kept : (r .answer .number ≡ 0 → ⊥) → r .exact ≡ exact
+  pub points-kept : (r .answer .number ≡ 0 → ⊥) → r .points ≡ points
+
+-- Demand 2. Where a request is accepted, each exact numerator at R = 0 to L is the whole number of the blossom sum
+-- (document 000, equation 8; document 004, Corollary 1), each rounded point is that over binomial(L, R)·1024^r, rounded, and
+-- every later place of both arrays stays.
+pub record Demand2 (rq : Request) (exact points : List ℤ) (r : Result) : Type 0 where
+  pub numerators : r .answer .number ≡ 0 → (R : ℕ) → R ≤ longest (rq .head) → getD (r .exact) R (pos 0) ≡ numerator rq R
+  pub rounded : r .answer .number ≡ 0 → (R : ℕ) → R ≤ longest (rq .head)
+      → getD (r .points) R (pos 0) ≡ nearest (numerator rq R) (choose (longest (rq .head)) R * 1024 ^ degree (rq .head))
+  pub exact-rest : r .answer .number ≡ 0 → (R : ℕ) → longest (rq .head) < R → getD (r .exact) R (pos 0) ≡ getD exact R (pos 0)
+  pub points-rest : r .answer .number ≡ 0 → (R : ℕ) → longest (rq .head) < R → getD (r .points) R (pos 0) ≡ getD points R (pos 0)
+
+-- Demand 3. Where a request is accepted, at every moment k/q the curve drawn from the rounded points lies within half a unit
+-- of the surface at the path's place: twice the difference, both scaled by 1024^r·q^L to whole numbers, is at most that
+-- scale. Both sides are read by Bernstein's formula (Rattle.net.specs.Reading); no blossom is in the statement.
+pub record Demand3 (rq : Request) (exact points : List ℤ) (r : Result) : Type 0 where
+  pub within-half : r .answer .number ≡ 0 → (k q : ℕ) → 1 ≤ q → k ≤ q
+      → natAbs (pos 2 *ℤ (pos (1024 ^ degree (rq .head)) *ℤ drawn (longest (rq .head)) (r .points) k q -ℤ surfaceRead rq k q))
+      ≤ 1024 ^ degree (rq .head) * q ^ longest (rq .head)
+
+module _ (rq : Request) (exact points : List ℤ) (r : Result) (allowed : Allowed rq exact points r) where
+  abbrev count : ℕ
+  count = answer rq (length exact) (length points) .count
+
+  -- a refusal writes nothing
+  nothing : (f : ℕ → ℤ) (l : List ℤ) → (answer rq (length exact) (length points) .number ≡ 0 → ⊥) → afterwards count f l ≡ l
+  nothing f l refusal = rw (refused-none rq (length exact) (length points) refusal) (afterwards-none f l)
+
+  -- an acceptance writes L + 1 places
+  all : r .answer .number ≡ 0 → count ≡ longest (rq .head) + 1
+  unfolding accepted
+  all e = ap (λ (a : Answer). a .count) (accepts rq (length exact) (length points) (ap (λ (a : Answer). a .number) (sym (allowed .answered)) ∙ e) .answered)
+
+  written : (f : ℕ → ℤ) (l : List ℤ) → r .answer .number ≡ 0 → (R : ℕ) → R ≤ longest (rq .head) → getD (afterwards count f l) R (pos 0) ≡ f R
+  written f l e R m = let c = all e in afterwards-at count f l R (pos 0) (omega arith)
+
+  rest : (f : ℕ → ℤ) (l : List ℤ) → r .answer .number ≡ 0 → (R : ℕ) → longest (rq .head) < R → getD (afterwards count f l) R (pos 0) ≡ getD l R (pos 0)
+  rest f l e R m = let c = all e in afterwards-past count f l R (pos 0) (omega arith)
+
+  pub demand1 : Demand1 rq exact points r
+  unfolding exactAfter pointsAfter
+  demand1 =
+      let a = allowed .answered in
+      let o = ordered rq (length exact) (length points) in
+      record {
+        number = rw a (o .number);
+        place = rw a (o .place);
+        count = rw a (o .count);
+        exact-kept = λ refusal. allowed .exact-is ∙ nothing (numerator rq) exact (rw a at refusal);
+        points-kept = λ refusal. allowed .points-is ∙ nothing (point rq) points (rw a at refusal);
+      }
+
+  pub demand2 : Demand2 rq exact points r
+  unfolding exactAfter pointsAfter point denominator
+  demand2 = record {
+    numerators = λ e R m. rw (allowed .exact-is) (written (numerator rq) exact e R m);
+    rounded = λ e R m. rw (allowed .points-is) (written (point rq) points e R m);
+    exact-rest = λ e R m. rw (allowed .exact-is) (rest (numerator rq) exact e R m);
+    points-rest = λ e R m. rw (allowed .points-is) (rest (point rq) points e R m);
+  }
+
+  pub demand3 : Demand3 rq exact points r
+  demand3 = record {
+    within-half = λ e k q some m. rw (allowed .points-is) (at-every-moment rq exact points (ap (λ (a : Answer). a .number) (sym (allowed .answered)) ∙ e) k q m);
+  }

@@ -1,0 +1,2 @@
+-- The three demands and determinacy. Assumes nothing.
+pub mod Demands
