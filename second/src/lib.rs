@@ -1,0 +1,75 @@
+//! The second program: the lean curve, composed by the plain sum.
+//!
+//! A request is a surface F, a path G and two rooms lent for the answer. The
+//! answer is the composed curve H = F∘G: exact numerators and rounded points.
+//! Nothing here is clever. Every choice of path points is visited, and every
+//! blossom is worked out afresh from the net, in numbers wide enough that no
+//! step can come near their ends.
+
+pub mod binomial;
+pub mod blossom;
+pub mod composed;
+pub mod line;
+pub mod quantity;
+pub mod refusal;
+pub mod request;
+pub mod ride;
+pub mod rounding;
+pub mod sample;
+pub mod shape;
+pub mod xorshift;
+
+pub use refusal::Refusal;
+pub use request::Request;
+pub use shape::{Form, Shape};
+
+/// What a request is told: a number, a place and a count.
+///
+/// Accepted: 0, 0, L+1. Refused: the refusal's number, a place, count 0.
+#[derive(Clone, Copy, Debug, PartialEq, Eq)]
+pub struct Answer {
+    pub number: u32,
+    pub place: u32,
+    pub count: u32,
+}
+
+/// Answers one request.
+///
+/// Refused, neither array changes. Accepted, the first L+1 places of each
+/// array are written and all later places stay.
+#[allow(clippy::too_many_arguments)]
+pub fn compose(
+    form: u32,
+    first: u32,
+    second: u32,
+    n: u32,
+    surface: &[i32],
+    path: &[i32],
+    exact: &mut [i64],
+    points: &mut [i32],
+) -> Answer {
+    let request = Request {
+        form,
+        first,
+        second,
+        n,
+        surface,
+        path,
+    };
+    let accepted = match request.check(exact.len(), points.len()) {
+        Ok(accepted) => accepted,
+        Err(refused) => return refused.answer(),
+    };
+    let shape = accepted.shape;
+    let numerators = composed::numerators(&shape, &accepted.surface, &accepted.path);
+    for (place, &numerator) in numerators.iter().enumerate() {
+        let point = rounding::nearest(numerator, shape.divisor(place));
+        exact[place] = i64::try_from(numerator).expect("a numerator is at most 924·2^52 in size");
+        points[place] = i32::try_from(point).expect("a point is at most 4096 in size");
+    }
+    Answer {
+        number: 0,
+        place: 0,
+        count: numerators.len() as u32,
+    }
+}

@@ -1,0 +1,181 @@
+//! Lines that are oddly written, cannot be read, or are passed over.
+
+use crate::line::{Asked, LONGEST};
+use crate::xorshift::Xorshift;
+
+/// Lines that are passed over.
+pub const PASSED_OVER: [&[u8]; 9] = [
+    b"",
+    b" ",
+    b"\t",
+    b" \t  \t",
+    b"#",
+    b"# a ride to pass over",
+    b"#1 1 0 1 2 0 100 2 0 1024",
+    b"#\r",
+    b"# \xff\x00 +",
+];
+
+/// Words that are no whole numbers.
+const NO_NUMBERS: [&[u8]; 22] = [
+    b"x",
+    b"+5",
+    b"+0",
+    b"1.5",
+    b"1.",
+    b"-",
+    b"--3",
+    b"- 3",
+    b"+-3",
+    b"0x10",
+    b"1e3",
+    b"5-",
+    b"3,",
+    b"1_000",
+    b"\0",
+    b"\xff",
+    b"\xd9\xa3",
+    b"\xc2\xa05",
+    b"7\x0b",
+    b"\x0c3",
+    b"5\r",
+    b"#",
+];
+
+/// The words of a request line.
+fn words(asked: &Asked) -> Vec<Vec<u8>> {
+    asked
+        .line()
+        .split(' ')
+        .map(|word| word.as_bytes().to_vec())
+        .collect()
+}
+
+/// An oddly written line that reads as the same request, and its name.
+pub fn odd(rng: &mut Xorshift, asked: &Asked, turn: usize) -> (&'static str, Vec<u8>) {
+    let mut words = words(asked);
+    let at = rng.below(words.len());
+    match turn % 7 {
+        0 => ("tabs", words.join(&b'\t')),
+        1 => ("many blanks", words.join(&b" \t  "[..])),
+        2 => {
+            words.insert(0, Vec::new());
+            words.push(b"\t ".to_vec());
+            ("blanks around", words.join(&b' '))
+        }
+        3 => {
+            words.iter_mut().for_each(|word| zeros(word, 1 + at));
+            ("zeros in front", words.join(&b' '))
+        }
+        4 => {
+            for word in words.iter_mut().filter(|word| *word == b"0") {
+                *word = b"-0".to_vec();
+            }
+            ("minus zero", words.join(&b' '))
+        }
+        5 => {
+            let spare = LONGEST - words.join(&b' ').len();
+            words[at].extend(vec![b' '; spare]);
+            ("just as long as may be, by blanks", words.join(&b' '))
+        }
+        _ => {
+            let spare = LONGEST - words.join(&b' ').len();
+            zeros(&mut words[at], spare);
+            ("just as long as may be, by zeros", words.join(&b' '))
+        }
+    }
+}
+
+/// Puts zeros before the digits of a word.
+fn zeros(word: &mut Vec<u8>, count: usize) {
+    let sign = usize::from(word.starts_with(b"-"));
+    word.splice(sign..sign, vec![b'0'; count]);
+}
+
+/// A line that cannot be read, and its name. The request names no rooms.
+pub fn unreadable(rng: &mut Xorshift, asked: &Asked, turn: usize) -> (&'static str, Vec<u8>) {
+    let mut words = words(asked);
+    let count_at = [4, 5 + asked.surface.len()];
+    let any = rng.below(words.len());
+    let (name, at, wrong): (_, usize, &[u8]) = match turn % 14 {
+        0 | 1 => ("no number", any, rng.pick(&NO_NUMBERS)),
+        2 => {
+            let far: [&[u8]; 4] = [b"-1", b"4294967296", b"18446744073709551617", &[b'9'; 99]];
+            ("form or degree too far", rng.below(4), rng.pick(&far))
+        }
+        3 => {
+            let at = 5 + rng.below(asked.surface.len());
+            ("control value too far", at, far_signed(rng))
+        }
+        4 => {
+            let at = count_at[1] + 1 + rng.below(asked.path.len());
+            ("path number too far", at, far_signed(rng))
+        }
+        5 => {
+            let far: [&[u8]; 4] = [b"-1", b"65", b"4294967297", b"18446744073709551617"];
+            ("count too far", rng.pick(&count_at), rng.pick(&far))
+        }
+        6 => {
+            let mut list = asked.clone();
+            list.surface.resize(65, 0);
+            return ("65 control values", list.line().into_bytes());
+        }
+        7 => {
+            words.push(b"64".to_vec());
+            words.push(b"13".to_vec());
+            let far: [&[u8]; 4] = [b"-1", b"65", b"4294967309", b"x"];
+            let at = words.len() - 1 - rng.below(2);
+            ("room too far", at, rng.pick(&far))
+        }
+        8 => {
+            words.truncate(1 + rng.below(words.len() - 1));
+            return ("too few words", words.join(&b' '));
+        }
+        9 => {
+            words.push(b"13".to_vec());
+            return ("one word left over", words.join(&b' '));
+        }
+        10 => {
+            words.extend(vec![b"13".to_vec(); 3 + rng.below(3)]);
+            return ("many words left over", words.join(&b' '));
+        }
+        11 => {
+            let count = asked.path.len() as i32 + rng.pick(&[-1, 1]);
+            words[count_at[1]] = count.to_string().into_bytes();
+            return ("count and words differ", words.join(&b' '));
+        }
+        12 => {
+            let spare = LONGEST + rng.pick(&[1, 2, 5000]) - words.join(&b' ').len();
+            match rng.below(2) {
+                0 => zeros(&mut words[any], spare),
+                _ => words[any].extend(vec![b' '; spare]),
+            }
+            return ("too long", words.join(&b' '));
+        }
+        _ => {
+            let late: [&[u8]; 4] = [b"\r", b" \r", b" # late", b"#"];
+            words[0].insert(0, b' ');
+            match rng.below(2) {
+                0 => words[0][0] = b'\r',
+                _ => words.last_mut().unwrap().extend(rng.pick(&late)),
+            }
+            return ("stray at an end", words.join(&b' '));
+        }
+    };
+    words[at] = wrong.to_vec();
+    // A line that begins with `#` would be passed over.
+    words[0].splice(0..0, wrong.starts_with(b"#").then_some(b' '));
+    (name, words.join(&b' '))
+}
+
+/// A number beyond 32 signed bits.
+fn far_signed(rng: &mut Xorshift) -> &'static [u8] {
+    let far: [&[u8]; 5] = [
+        b"2147483648",
+        b"-2147483649",
+        b"4294967295",
+        b"-4294967296",
+        b"18446744073709551616",
+    ];
+    rng.pick(&far)
+}

@@ -1,0 +1,87 @@
+//! Demand 3 as exact fractions, at moments k/q with q from 1 to 16.
+//!
+//! The bound: with q at most 16 every reading is at most 2^100 in size (see
+//! `ride`), so twice a difference is below 2^102 and fits 128 bits.
+
+use second::request::Accepted;
+use second::sample::{Expect, Sampler};
+use second::xorshift::Xorshift;
+use second::{line, ride, Request};
+
+/// The accepted rides of a seed, with their answers.
+fn rides(seed: u64, draws: usize) -> impl Iterator<Item = (Accepted, line::Reply)> {
+    let mut sampler = Sampler::new(seed);
+    (0..draws).filter_map(move |_| {
+        let sample = sampler.draw();
+        if sample.expect != Expect::Number(0) {
+            return None;
+        }
+        let mut asked = line::read(&sample.line).expect("an accepted line is readable");
+        asked.rooms = None;
+        let reply = asked.reply();
+        let request = Request {
+            form: asked.form,
+            first: asked.first,
+            second: asked.second,
+            n: asked.n,
+            surface: &asked.surface,
+            path: &asked.path,
+        };
+        let accepted = request.check(13, 13).expect("the ride is accepted");
+        Some((accepted, reply))
+    })
+}
+
+/// Compares the three readings of one ride at k/q.
+fn compare(ride: &Accepted, reply: &line::Reply, k: i128, q: i128) {
+    let shape = &ride.shape;
+    let surface = ride::surface(shape, &ride.surface, &ride.path, k, q);
+    // The exact curve is the surface at the path's place.
+    assert_eq!(ride::exact(&reply.exact, k, q), surface);
+    // The drawn curve is within half a unit of it.
+    let unit = shape.scale() * q.pow(shape.length() as u32);
+    let drawn = ride::drawn(&reply.points, k, q) * shape.scale();
+    assert!(2 * (drawn - surface).abs() <= unit);
+}
+
+#[test]
+fn at_random_moments() {
+    let mut rng = Xorshift::new(3);
+    let mut count = 0;
+    for (ride, reply) in rides(1, 6000) {
+        for _ in 0..4 {
+            let q = rng.between(1, 16);
+            let k = rng.between(0, q);
+            compare(&ride, &reply, i128::from(k), i128::from(q));
+        }
+        count += 1;
+    }
+    assert!(count > 3000);
+}
+
+/// A curve of degree L is fixed by its values at L+1 moments: at all of the
+/// seventeen moments k/16 this settles every numerator, since L is at most 12.
+#[test]
+fn at_every_sixteenth() {
+    for (ride, reply) in rides(2, 2500) {
+        for k in 0..=16 {
+            compare(&ride, &reply, k, 16);
+        }
+    }
+}
+
+/// Numerators are at most binomial(L, R)·2^(12+10r) in size, and each point
+/// is the one whole number p with p − 1/2 ≤ exact < p + 1/2.
+#[test]
+fn numerators_and_points_keep_their_bounds() {
+    for (ride, reply) in rides(3, 6000) {
+        for (at, (&numerator, &point)) in reply.exact.iter().zip(&reply.points).enumerate() {
+            let divisor = ride.shape.divisor(at);
+            let numerator = i128::from(numerator);
+            let point = i128::from(point);
+            assert!(numerator.abs() <= 4096 * divisor);
+            assert!((2 * point - 1) * divisor <= 2 * numerator);
+            assert!(2 * numerator < (2 * point + 1) * divisor);
+        }
+    }
+}

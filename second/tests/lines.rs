@@ -1,0 +1,128 @@
+//! Request lines and answer lines, and the samples made of them.
+
+use second::line::{passed_over, read, LONGEST};
+use second::sample::{Expect, Sampler};
+use std::collections::BTreeMap;
+
+/// The answer line of a readable request line.
+fn told(line: &str) -> String {
+    read(line.as_bytes()).unwrap().reply().line()
+}
+
+#[test]
+fn answer_lines() {
+    let p1 = "1 1 0 1 2 0 100 2 0 1024";
+    assert_eq!(told(p1), "0 0 2 | 0 102400 | 0 100");
+    assert_eq!(told("4 9 0 1 0 0"), "1 0 0 | |");
+    let rooms = |rooms: &str| told(&format!("{p1} {rooms}"));
+    assert_eq!(rooms("2 2"), "0 0 2 | 0 102400 | 0 100");
+    assert_eq!(rooms("4 3"), "0 0 2 | 0 102400 -7 -7 | 0 100 -9");
+    assert_eq!(rooms("1 3"), "5 0 0 | -7 | -9 -9 -9");
+    assert_eq!(rooms("0 2"), "5 0 0 | | -9 -9");
+    assert_eq!(rooms("2 0"), "5 0 0 | -7 -7 |");
+    assert_eq!(rooms("0 0"), "5 0 0 | |");
+    assert_eq!(told("1 1 0 1 2 0 4097 2 0 1025 1 2"), "5 0 0 | -7 | -9 -9");
+    assert_eq!(told("1 1 0 1 2 0 4097 2 0 1025"), "6 1 0 | |");
+}
+
+#[test]
+fn blanks_zeros_and_signs() {
+    let plain = read(b"1 0 0 0 1 -5 1 7").unwrap();
+    for same in [
+        &b"\t1\t0 0  0 1\t -5 1 7 "[..],
+        b"0001 00 0 0 01 -0005 1 007",
+        b"1 -0 -00 0 1 -5 1 7",
+    ] {
+        assert_eq!(read(same).unwrap(), plain);
+    }
+}
+
+#[test]
+fn ends_of_the_numbers() {
+    let line = "4294967295 4294967295 0 4294967295 1 -2147483648 1 2147483647 64 0";
+    assert_eq!(read(line.as_bytes()).unwrap().line(), line);
+    for bad in [
+        "4294967296 0 0 0 0 0",
+        "-1 0 0 0 0 0",
+        "0 0 0 4294967296 0 0",
+        "0 0 0 0 1 2147483648 0",
+        "0 0 0 0 1 -2147483649 0",
+        "0 0 0 0 0 1 2147483648",
+        "0 0 0 0 65 0",
+        "0 0 0 0 -1 0",
+        "0 0 0 0 0 65",
+        "0 0 0 0 0 0 65 0",
+        "0 0 0 0 0 0 0 -1",
+        "0 0 0 0 0 0 0",
+        "0 0 0 0 0 0 0 0 0",
+        "0 0 0 0 0",
+        "0 0 0 0 1 5",
+        "0 0 0 0 1 5 1",
+        "0",
+        " #",
+        "0 0 0 0 0 0\r",
+        "0 0 0 0 0 +0",
+        "0 0 0 0 0 - 0",
+        "99999999999999999999999999999999 0 0 0 0 0",
+        "-99999999999999999999999999999999 0 0 0 0 0",
+    ] {
+        assert!(!passed_over(bad.as_bytes()));
+        assert!(read(bad.as_bytes()).is_err(), "{bad}");
+    }
+}
+
+#[test]
+fn the_longest_line() {
+    let mut line = b"1 0 0 0 1 -5 1 7".to_vec();
+    line.resize(LONGEST, b' ');
+    assert!(read(&line).is_ok());
+    line.push(b' ');
+    assert!(read(&line).is_err());
+}
+
+#[test]
+fn lines_passed_over() {
+    for line in [&b""[..], b" ", b"\t \t", b"#", b"# x", b"#\r"] {
+        assert!(passed_over(line));
+    }
+    for line in [&b"\r"[..], b" #", b"\t#", b"0", b"\x0b"] {
+        assert!(!passed_over(line));
+    }
+}
+
+/// Every sample is answered as its kind says, and every kind comes.
+#[test]
+fn samples_are_what_they_say() {
+    let mut sampler = Sampler::new(7);
+    let mut kinds: BTreeMap<String, u32> = BTreeMap::new();
+    for _ in 0..40_000 {
+        if let Some(aside) = sampler.aside() {
+            assert!(passed_over(aside));
+        }
+        let sample = sampler.draw();
+        assert!(!passed_over(&sample.line));
+        assert!(!sample.line.contains(&b'\n'));
+        let got = match read(&sample.line) {
+            Err(_) => Expect::Unreadable,
+            Ok(asked) => Expect::Number(asked.reply().answer.number),
+        };
+        let shown = sample.line.escape_ascii();
+        assert_eq!(got, sample.expect, "{}: {shown}", sample.kind);
+        *kinds.entry(sample.kind).or_default() += 1;
+    }
+    let pairs = kinds.keys().filter(|kind| kind.starts_with("pair"));
+    assert_eq!(pairs.count(), 28);
+    let alone = kinds.keys().filter(|kind| kind.starts_with("alone"));
+    assert_eq!(alone.count(), 8);
+    assert!(kinds.values().all(|&times| times > 50), "{kinds:?}");
+}
+
+#[test]
+fn the_same_seed_gives_the_same_samples() {
+    let lines = |seed| {
+        let mut sampler = Sampler::new(seed);
+        (0..500).map(|_| sampler.draw().line).collect::<Vec<_>>()
+    };
+    assert_eq!(lines(11), lines(11));
+    assert_ne!(lines(11), lines(12));
+}
