@@ -1,0 +1,2 @@
+-- What the program's functions ask of each other. Assumes nothing.
+pub mod Fits

@@ -1,0 +1,102 @@
+// `ask --help`: the format of a request line and of an answer line, on one screen.
+use libc::STDOUT_FILENO;
+
+// Whether the first argument is `--help`.
+pub fn is_asked() -> bool {
+    let mut word = [0u8; 7];
+    let n = os::arg(1, &mut word);
+    if n != 6 {
+        return false;
+    }
+    if word[0] != b'-' {
+        return false;
+    }
+    if word[1] != b'-' {
+        return false;
+    }
+    if word[2] != b'h' {
+        return false;
+    }
+    if word[3] != b'e' {
+        return false;
+    }
+    if word[4] != b'l' {
+        return false;
+    }
+    word[5] == b'p'
+}
+
+// What a request line is.
+fn say_request() {
+    io::write_all(STDOUT_FILENO, b"usage: ask [FILE]..\n");
+    io::write_all(
+        STDOUT_FILENO,
+        b"Answers the request lines of each file, or of standard input where no file is named.\n",
+    );
+    io::write_all(STDOUT_FILENO, b"\n");
+    io::write_all(
+        STDOUT_FILENO,
+        b"A request line is whole numbers with blanks, spaces or tabs, between them:\n",
+    );
+    io::write_all(
+        STDOUT_FILENO,
+        b"  form first second N   0 to 4294967295 each\n",
+    );
+    io::write_all(
+        STDOUT_FILENO,
+        b"  count value..         0 to 64 control values, -2147483648 to 2147483647 each\n",
+    );
+    io::write_all(
+        STDOUT_FILENO,
+        b"  count number..        0 to 64 path numbers within the same bounds\n",
+    );
+    io::write_all(
+        STDOUT_FILENO,
+        b"  exact points          if wanted, the room for numerators and for points, 0 to 64\n",
+    );
+    io::write_all(
+        STDOUT_FILENO,
+        b"A number is digits, with - before them below 0. A line is at most 4096 bytes long.\n",
+    );
+    io::write_all(
+        STDOUT_FILENO,
+        b"Lines of blanks alone and lines that begin with # are passed over.\n",
+    );
+}
+
+// What an answer line is.
+fn say_answer() {
+    io::write_all(STDOUT_FILENO, b"\n");
+    io::write_all(STDOUT_FILENO, b"The answer line is\n");
+    io::write_all(
+        STDOUT_FILENO,
+        b"  number place count | numerators | points\n",
+    );
+    io::write_all(
+        STDOUT_FILENO,
+        b"number: 0 accepted, 1 KIND, 2 DEGREE, 3 SURFACE, 4 PATH, 5 ROOM, 6 VALUE,\n",
+    );
+    io::write_all(
+        STDOUT_FILENO,
+        b"7 PARAMETER, 8 BALANCE. Without rooms the first count places of both arrays are\n",
+    );
+    io::write_all(
+        STDOUT_FILENO,
+        b"shown; with rooms all places are, which hold -7 and -9 beforehand. A line that\n",
+    );
+    io::write_all(
+        STDOUT_FILENO,
+        b"cannot be read is answered by `unreadable`, and FILE:LINE: what is wrong with it\n",
+    );
+    io::write_all(STDOUT_FILENO, b"goes to standard error.\n");
+    io::write_all(STDOUT_FILENO, b"\n");
+    io::write_all(
+        STDOUT_FILENO,
+        b"  1 1 0 1 2 0 100 2 0 1024   is answered by   0 0 2 | 0 102400 | 0 100\n",
+    );
+}
+
+pub fn print() {
+    say_request();
+    say_answer();
+}

@@ -1,0 +1,56 @@
+-- `text::lines::keep_byte` meets its contract: the three cases of its definition. Assumes nothing.
+use mathlib.Core.Path.{_≡_, sym, _∙_}
+use native.Mathlib.Omega.{arith}
+use borrow.Author.Needs.{needs}
+use Rattle.text.proofs.Keeping.{keeps-room, keeps-blank, keeps-full}
+use Rattle.text.proofs.lines.keep_byte.Statement.{statement}
+use Rattle.text.proofs.lines.keep_byte.Tie as tie
+
+slice-write-line : tie.Need-slice-write-line
+slice-write-line c = search needs
+
+add-result : tie.Need-add-result
+add-result c = search needs
+
+same-length : tie.Need-same-length
+same-length c = search needs
+
+returns : tie.Need-returns
+returns c = keeps-room _ _ _ (c .if1 .taken)
+
+sub-last : tie.Need-sub-last
+sub-last c = search needs
+
+slice-read-is-blank : tie.Need-slice-read-is-blank
+slice-read-is-blank c = search needs
+
+is-blank-requires : tie.Need-is-blank-requires
+is-blank-requires c κs = search needs
+
+slice-write-line-2 : tie.Need-slice-write-line-2
+slice-write-line-2 c = search needs
+
+same-length-2 : tie.Need-same-length-2
+same-length-2 c = search needs
+
+returns-2 : tie.Need-returns-2
+returns-2 c = keeps-blank _ _ _ (c .before .before .before .if1 .left) (omega arith) (sym (c .before .is-blank .ensures) ∙ c .if2 .taken)
+
+returns-3 : tie.Need-returns-3
+returns-3 c = keeps-full _ _ _ (c .before .before .before .if1 .left) (omega arith) (sym (c .before .is-blank .ensures) ∙ c .if2 .left)
+
+pub keep-byte-spec : {M : Type 1} → statement M
+keep-byte-spec =
+    tie.close
+    (tie.spec
+    slice-write-line
+    add-result
+    same-length
+    returns
+    sub-last
+    slice-read-is-blank
+    is-blank-requires
+    slice-write-line-2
+    same-length-2
+    returns-2
+    returns-3)

@@ -1,0 +1,16 @@
+-- `text::word::is_blank` meets its contract: the definition's two tests. Assumes nothing.
+use borrow.Author.Tests.{eq-eqb, ne-eqb}
+use Rattle.text.specs.Words.{isBlank}
+use Rattle.text.proofs.word.is_blank.Statement.{statement}
+use Rattle.text.proofs.word.is_blank.Tie as tie
+
+returns : tie.Need-returns
+unfolding isBlank
+returns c = rw (eq-eqb _ _ (c .if1 .taken))
+
+returns-2 : tie.Need-returns-2
+unfolding isBlank
+returns-2 c = rw (ne-eqb _ _ (c .if1 .left))
+
+pub is-blank-spec : {M : Type 1} → statement M
+is-blank-spec = tie.close (tie.spec returns returns-2)

@@ -1,0 +1,46 @@
+-- How a whole number and an answer line are written, and what a buffer holds then. Assumes nothing.
+use mathlib.Core.Path.{_≡_}
+use mathlib.Core.Bool.{Bool, true, false}
+use mathlib.Core.List.{List, [], _∷_, _++_}
+use Prim.Native.Nat.{ℕ, zero, suc, _+_, _/_, _%_, _≤_}
+use lib.Dec.{ltb}
+use lib.IntN.{ℤ, pos, negsuc}
+use lib.ListN.{length}
+use lib.Seq.{sets}
+
+-- the decimal digits of n, the most significant first, where there are at most so many
+unfoldable pub digitsOf : ℕ → ℕ → List ℕ
+digitsOf zero n = []
+digitsOf (suc k) n = elim (ltb n 10) [ true ↦ (48 + n) ∷ [] | false ↦ digitsOf k (n / 10) ++ ((48 + n % 10) ∷ []) ]
+
+-- a number has at most as many digits as its successor says
+unfoldable pub digits : ℕ → List ℕ
+digits n = digitsOf (suc n) n
+
+-- with a minus before them below 0
+unfoldable pub decimal : ℤ → List ℕ
+decimal (pos n) = digits n
+decimal (negsuc n) = 45 ∷ digits (suc n)
+
+-- numbers with one space before each
+unfoldable pub spaced : List ℤ → List ℕ
+spaced [] = []
+spaced (z ∷ zs) = 32 ∷ decimal z ++ spaced zs
+
+-- `number place count`
+unfoldable pub verdict : ℕ → ℕ → ℕ → List ℕ
+verdict number place count = digits number ++ 32 ∷ digits place ++ 32 ∷ digits count
+
+-- ` | numerators | points`
+unfoldable pub lists : List ℤ → List ℤ → List ℕ
+lists exact points = 32 ∷ 124 ∷ spaced exact ++ 32 ∷ 124 ∷ spaced points
+
+-- both and a newline
+unfoldable pub answerLine : ℕ → ℕ → ℕ → List ℤ → List ℤ → List ℕ
+answerLine number place count exact points = verdict number place count ++ lists exact points ++ 10 ∷ []
+
+-- at most so many bytes were written from a place on, up to an end; the rest of the buffer stays
+pub record Written (most : ℕ) (before : List ℕ) (at : ℕ) (bytes : List ℕ) (now : List ℕ) (end : ℕ) : Type 0 where
+  pub ends : end ≡ at + length bytes
+  pub holds : now ≡ sets before at bytes
+  pub small : end ≤ at + most

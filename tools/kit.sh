@@ -1,0 +1,31 @@
+# Sourced by the scripts of this repository. Sets `top`, the repository's folder, `rt`, the kit's command, and `kit`, the kit's
+# folder, and gives `quietly`; leaves with 2 where there is no kit.
+# shellcheck shell=bash disable=SC2034
+top=$(dirname "$(dirname "$(readlink -f "${BASH_SOURCE[0]}")")")
+
+rt=$(command -v rt || true)
+if [ -z "$rt" ] && [ -n "${RATTLE_HOME:-}" ]; then rt=$RATTLE_HOME/bin/rt; fi
+if [ ! -x "$rt" ]; then
+    echo "${0##*/}: rt is not found: unpack the Rattle kit and put its bin/ on PATH, or set RATTLE_HOME to its folder" >&2
+    exit 2
+fi
+kit=${RATTLE_HOME:-$(dirname "$(dirname "$(readlink -f "$rt")")")}
+if [ ! -f "$kit/KIT-ID" ]; then
+    echo "${0##*/}: $rt stands in no Rattle kit: put the bin/ of the kit first on PATH, or set RATTLE_HOME to its folder" >&2
+    exit 2
+fi
+
+# Runs rt in the repository and shows what it says only where it fails. One at a time, so that programs joined by a pipe do
+# not build into each other's files.
+quietly() { # WORDS...
+    local said
+    mkdir -p "$top/target"
+    said=$(
+        exec 9>"$top/target/lock"
+        ! command -v flock >/dev/null || flock 9
+        cd "$top" && "$rt" "$@" 2>&1 </dev/null
+    ) || {
+        printf '%s\n' "$said" >&2
+        return 1
+    }
+}
