@@ -3,7 +3,7 @@ ghost use Prim.Native.Nat.{_+_, _≤_};
 ghost use lib.ListN.{length};
 ghost use Rattle.io.specs.Counts.{Counts};
 ghost use mathlib.Core.Path.{_≡_};
-ghost use Rattle.text.specs.Read.{Small};
+ghost use Rattle.text.specs.Told.{Small};
 ghost use Rattle.ask.specs.Fits.{Fits};
 use libc::STDERR_FILENO;
 use text::Line;

@@ -11,7 +11,8 @@ use lib.Seq.{length-take-le}
 use borrow.Author.Tests.{lt-ltb, le-ltb}
 use Rattle.text.specs.Words.{run, every, isBlank}
 use Rattle.text.specs.Line.{Got, got, wrong, most, _then_, headed, listed, roomed, together, asked, judged, Meaning, passed, unreadable, isPassed, meaning}
-use Rattle.text.specs.Read.{padded, shown, Tells, ReadsHead, ReadsList, ReadsRooms}
+use Rattle.text.specs.Read.{ReadsHead, ReadsList, ReadsRooms}
+use Rattle.text.specs.Told.{padded, shown, Tells}
 use Rattle.text.specs.declared.numbers.Listed.{Listed}
 use Rattle.text.specs.declared.numbers.Headed.{Headed}
 use Rattle.text.specs.declared.numbers.Roomed.{Roomed}

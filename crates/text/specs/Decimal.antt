@@ -8,12 +8,12 @@ use lib.IntN.{ℤ, pos, negsuc}
 use lib.ListN.{length}
 use lib.Seq.{sets}
 
--- the decimal digits of n, the most significant first, where there are at most so many
+-- the decimal digits of a number, the most significant first; so many are enough
 unfoldable pub digitsOf : ℕ → ℕ → List ℕ
 digitsOf zero n = []
 digitsOf (suc k) n = elim (ltb n 10) [ true ↦ (48 + n) ∷ [] | false ↦ digitsOf k (n / 10) ++ ((48 + n % 10) ∷ []) ]
 
--- a number has at most as many digits as its successor says
+-- n + 1 digits are always enough for n
 unfoldable pub digits : ℕ → List ℕ
 digits n = digitsOf (suc n) n
 

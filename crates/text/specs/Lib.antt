@@ -4,3 +4,4 @@ pub mod Decimal
 pub mod Line
 pub mod Kept
 pub mod Read
+pub mod Told

@@ -47,6 +47,7 @@ pub data Got (A : Type 0) : Type 0 where
   got : A → List ℕ → Got A
   wrong : ℕ → Got A
 
+-- reading on with what was read
 infixr 20 _then_
 abbrev pub _then_ : {A B : Type 0} → Got A → (A → List ℕ → Got B) → Got B
 got a s then f = f a s
@@ -65,6 +66,7 @@ bounded below above (some z) rest = cond (within below above z) (got z rest) (wr
 unfoldable pub number : ℕ → ℕ → List ℕ → Got ℤ
 number below above s = cond (eqb (length (word s)) 0) (wrong tooFew) (bounded below above (whole (word s)) (after s))
 
+-- the next word as a number from 0 to above
 unfoldable pub natural : ℕ → List ℕ → Got ℕ
 natural above s = number 0 above s then λ z rest. got (natAbs z) rest
 
@@ -116,6 +118,7 @@ asked s =
     listed s then λ path s.
     roomed s then λ rooms s. got (together head surface path rooms) s
 
+-- what a line is
 pub data Meaning : Type 0 where
   passed : Meaning
   unreadable : ℕ → Meaning
@@ -125,7 +128,7 @@ unfoldable pub judged : Got Asked → Meaning
 judged (got a rest) = asks a
 judged (wrong r) = unreadable r
 
--- "Blank lines (only blanks) and lines that begin with `#` are passed over", however long
+-- a line of blanks alone, or one that begins with `#`, however long
 unfoldable pub isPassed : List ℕ → Bool
 isPassed s = eqb (getD s 0 0) 35 || every isBlank s
 

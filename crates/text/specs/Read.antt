@@ -1,15 +1,14 @@
--- How the code's values show what is read: kinds of byte, capped numbers, a reason and a place, and the answer whole.
--- Assumes nothing.
+-- How the readers' values show what is read: kinds of byte, capped numbers, a reason and a place. Assumes nothing.
 use mathlib.Core.Path.{_≡_}
 use mathlib.Core.Bool.{Bool, false, cond}
-use mathlib.Core.List.{List, _++_}
+use mathlib.Core.List.{List}
 use mathlib.Core.Option.{Option, none, some}
 use Prim.Native.Nat.{ℕ, suc, _-_, _≤_, min}
 use lib.Dec.{leb, eqb}
 use lib.IntN.{ℤ, pos, negsuc}
-use lib.ListN.{length, take, drop, replicate}
+use lib.ListN.{length, take, drop}
 use Rattle.text.specs.Words.{isBlank, isSolid, isDigit, isText, run, word, after, signed}
-use Rattle.text.specs.Line.{Got, got, wrong, outside, most, number, values, listed, paired, headed, roomed, Meaning, passed, unreadable, asks}
+use Rattle.text.specs.Line.{Got, got, wrong, outside, most, number, values, listed, paired, headed, roomed}
 use Rattle.text.specs.declared.word.Kind.{Kind}
 use Rattle.text.specs.declared.word.Kind.the-variants.{Blank, Solid, Digit, Text}
 use Rattle.text.specs.declared.word.Whole.{Whole}
@@ -21,9 +20,6 @@ use Rattle.text.specs.declared.numbers.Listed.{Listed}
 use Rattle.text.specs.declared.numbers.Pair.{Pair}
 use Rattle.text.specs.declared.numbers.Headed.{Headed}
 use Rattle.text.specs.declared.numbers.Roomed.{Roomed}
-use Rattle.text.specs.declared.Line.{Line}
-use Rattle.text.specs.declared.Line.the-variants.{Passed, Unreadable, Asks}
-use Rattle.text.specs.declared.Reading.{Reading}
 
 abbrev pub isKind : Kind → ℕ → Bool
 isKind Blank = isBlank
@@ -103,24 +99,3 @@ pub record ReadsRooms (s : List ℕ) (r : Roomed) : Type 0 where
 
 abbrev pub noRooms : ℕ → Roomed
 noRooms reason = record { wrong = reason; rooms = record { given = false; exact = 0; points = 0 }; next = 0 }
-
--- a list in its array, zeros behind it
-unfoldable pub padded : List ℤ → List ℤ
-padded l = l ++ replicate (most - length l) (pos 0)
-
--- the answer to a line
-unfoldable pub shown : Meaning → Reading
-shown passed = record { line = Passed; surface = replicate most (pos 0); path = replicate most (pos 0) }
-shown (unreadable reason) = record { line = Unreadable reason; surface = replicate most (pos 0); path = replicate most (pos 0) }
-shown (asks a) = record { line = Asks (a .request); surface = padded (a .surface); path = padded (a .path) }
-
--- a request's counts and rooms are small
-abbrev pub Small : Line → Type 0
-Small Passed = Unit {0}
-Small (Unreadable reason) = Unit {0}
-Small (Asks q) = (q .surface ≤ most) × (q .path ≤ most) × (q .rooms .exact ≤ most) × (q .rooms .points ≤ most)
-
--- the answer tells a meaning, whole
-pub record Tells (m : Meaning) (r : Reading) : Type 0 where
-  pub is : r ≡ shown m
-  pub small : Small (r .line)

@@ -44,6 +44,7 @@ unfoldable pub spelled : ℕ → List ℕ → ℕ
 spelled n [] = n
 spelled n (d ∷ ds) = spelled (n * 10 + (d - 48)) ds
 
+-- n, or −n
 unfoldable pub signed : Bool → ℕ → ℤ
 signed minus n = cond minus (negℤ (pos n)) (pos n)
 
@@ -51,7 +52,7 @@ signed minus n = cond minus (negℤ (pos n)) (pos n)
 unfoldable pub ofDigits : Bool → List ℕ → Option ℤ
 ofDigits minus ds = cond (not (eqb (length ds) 0) && every isDigit ds) (some (signed minus (spelled 0 ds))) none
 
--- the whole number of a word: "an optional `-` and then one or more decimal digits"
+-- the whole number of a word: `-` or nothing, and then one or more digits
 unfoldable pub whole : List ℕ → Option ℤ
 whole [] = none
 whole (b ∷ ds) = cond (eqb b 45) (ofDigits true ds) (ofDigits false (b ∷ ds))

@@ -8,7 +8,7 @@ mod word;
 
 ghost use mathlib.Core.Path.{_≡_};
 ghost use Rattle.text.specs.Line.{meaning, judged, asked, isPassed, unreadable};
-ghost use Rattle.text.specs.Read.{shown, Tells};
+ghost use Rattle.text.specs.Told.{shown, Tells};
 pub use decimal::write_number;
 pub use lines::Piece;
 pub use lines::split;

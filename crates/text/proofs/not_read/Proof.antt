@@ -1,6 +1,6 @@
 -- `text::not_read` meets its contract: it is the definition's answer. Assumes nothing.
 use mathlib.Core.Path.{refl}
-use Rattle.text.specs.Read.{shown}
+use Rattle.text.specs.Told.{shown}
 use Rattle.text.proofs.not_read.Statement.{statement}
 use Rattle.text.proofs.not_read.Tie as tie
 

@@ -2,7 +2,7 @@
 use mathlib.Core.Path.{_≡_, sym, _∙_}
 use native.Mathlib.Omega.{arith}
 use borrow.Author.Needs.{needs}
-use Rattle.text.specs.Read.{shown}
+use Rattle.text.specs.Told.{shown}
 use Rattle.text.proofs.Asks.{meaning-passed, meaning-long, meaning-asked, tells-wrong}
 use Rattle.text.proofs.read_line.Statement.{statement}
 use Rattle.text.proofs.read_line.Tie as tie

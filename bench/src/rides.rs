@@ -1,0 +1,78 @@
+//! Accepted rides, the same for the same seed.
+
+use second::xorshift::Xorshift;
+
+/// One accepted request.
+pub struct Ride {
+    pub form: u32,
+    pub first: u32,
+    pub second: u32,
+    pub n: u32,
+    pub surface: Vec<i32>,
+    pub path: Vec<i32>,
+}
+
+impl Ride {
+    /// How many choices the sum runs over: (N+1)^r.
+    pub fn choices(&self) -> u64 {
+        (u64::from(self.n) + 1).pow(self.first + self.second)
+    }
+}
+
+/// Rides of mixed forms: the form, the degrees of that form and N are each drawn evenly from all legal ones.
+pub fn mixed(rng: &mut Xorshift, count: usize) -> Vec<Ride> {
+    (0..count)
+        .map(|_| {
+            let form = rng.pick(&[1, 2, 3]);
+            let degrees: Vec<(u32, u32)> = (0..=4).flat_map(|r| splits(form, r)).collect();
+            let degrees = rng.pick(&degrees);
+            let n = rng.below(4) as u32;
+            ride(rng, form, degrees, n)
+        })
+        .collect()
+}
+
+/// Rides of one form with r arguments and a path of degree N; in form 2 the ways to split r come in turn.
+pub fn alike(rng: &mut Xorshift, count: usize, form: u32, r: u32, n: u32) -> Vec<Ride> {
+    let degrees = splits(form, r);
+    (0..count)
+        .map(|turn| ride(rng, form, degrees[turn % degrees.len()], n))
+        .collect()
+}
+
+/// The first and second degrees with sum r.
+fn splits(form: u32, r: u32) -> Vec<(u32, u32)> {
+    match form {
+        2 => (0..=r).map(|second| (r - second, second)).collect(),
+        _ => vec![(r, 0)],
+    }
+}
+
+/// A ride with control values and path numbers drawn evenly from all legal ones.
+fn ride(rng: &mut Xorshift, form: u32, (first, second): (u32, u32), n: u32) -> Ride {
+    let values = match form {
+        3 => (first + 1) * (first + 2) / 2,
+        _ => (first + 1) * (second + 1),
+    };
+    let surface = (0..values).map(|_| rng.between(-4096, 4096)).collect();
+    let mut path = Vec::new();
+    for _ in 0..=n {
+        let x = rng.between(0, 1024);
+        match form {
+            1 => path.push(x),
+            2 => path.extend([x, rng.between(0, 1024)]),
+            _ => {
+                let y = rng.between(0, 1024 - x);
+                path.extend([x, y, 1024 - x - y]);
+            }
+        }
+    }
+    Ride {
+        form,
+        first,
+        second,
+        n,
+        surface,
+        path,
+    }
+}
