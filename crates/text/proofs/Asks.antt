@@ -1,16 +1,16 @@
 -- Laws of a whole request: the head, the lists and the rooms one after the other, and a list in its array. Assumes nothing.
-use mathlib.Core.Path.{_≡_, refl, sym, ap, _∙_}
+use mathlib.Core.Path.{_≡_, refl, _∙_}
 use mathlib.Core.Bool.{true, false}
-use mathlib.Core.List.{List, [], _∷_, _++_}
+use mathlib.Core.List.{List, [], _∷_}
 use Prim.Native.Nat.{ℕ, zero, suc, _+_, _-_, _≤_, _<_}
 use native.Mathlib.Nat.{zero-sub, suc-sub-suc, sub-zero}
 use native.Mathlib.Omega.{arith}
 use lib.IntN.{ℤ, pos}
-use lib.ListN.{length, getD, take, drop, replicate, take-append-drop}
+use lib.ListN.{length, take, drop, replicate, take-append-drop}
 use lib.Seq.{length-take-le}
 use borrow.Author.Tests.{lt-ltb, le-ltb}
-use Rattle.text.specs.Words.{run, every, isBlank}
-use Rattle.text.specs.Line.{Got, got, wrong, most, _then_, headed, listed, roomed, together, asked, judged, Meaning, passed, unreadable, isPassed, meaning}
+use Rattle.text.specs.Words.{run, every}
+use Rattle.text.specs.Line.{got, wrong, most, _then_, headed, listed, roomed, together, asked, judged, Meaning, passed, unreadable, isPassed, meaning}
 use Rattle.text.specs.Read.{ReadsHead, ReadsList, ReadsRooms}
 use Rattle.text.specs.Told.{padded, shown, Tells}
 use Rattle.text.specs.declared.numbers.Listed.{Listed}

@@ -4,7 +4,7 @@ use mathlib.Core.Path.{_≡_, refl}
 use mathlib.Core.Bool.{true, false}
 use mathlib.Core.List.{List, [], _∷_, _++_, map}
 use Prim.Native.Nat.{ℕ}
-use lib.IntN.{ℤ, pos, negsuc}
+use lib.IntN.{pos, negsuc}
 use Rattle.text.specs.Words.{isBlank, isSolid, isDigit, run, every, word, after, spelled, signed, ofDigits, whole}
 use Rattle.text.specs.Decimal.{digitsOf, digits, decimal, spaced, verdict, lists, answerLine}
 use Rattle.text.specs.Line.{within, bounded, number, natural, values, listed, paired, headed, roomed, together, asked, judged, isPassed, meaning, Meaning, passed, unreadable, asks}

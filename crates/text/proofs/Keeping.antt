@@ -11,7 +11,7 @@ use lib.ListN.{length, getD, take, drop, set, length-append, length-set, List·g
 use lib.Seq.{drop-cons, take-suc-set, take-all, length-take-le, getD-set-other}
 use borrow.Author.Tests.{lt-ltb, le-ltb, ltb-true, ltb-false}
 use Rattle.text.specs.Words.{isBlank, isText, run, every}
-use Rattle.text.specs.Line.{isPassed, meaning, unreadable}
+use Rattle.text.specs.Line.{isPassed, meaning}
 use Rattle.text.specs.Kept.{keptByte, kept, Keeps, Splits}
 use Rattle.text.specs.Read.{Ran}
 

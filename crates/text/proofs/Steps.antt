@@ -6,7 +6,7 @@ use Prim.Native.Nat.{ℕ, zero, suc, _+_, _-_, _≤_, _<_}
 use native.Mathlib.Numerals.{add-one}
 use native.Mathlib.Omega.{arith}
 use lib.Dec.{eqb}
-use lib.IntN.{ℤ, pos, natAbs}
+use lib.IntN.{ℤ, natAbs}
 use lib.ListN.{length, take, drop, set, length-drop, length-set}
 use lib.Seq.{drop-drop, take-suc-set, drop-set-lt}
 use borrow.Author.Tests.{eq-eqb, ne-eqb}
@@ -16,7 +16,6 @@ use Rattle.text.specs.Read.{outcome, Reads, ReadsValues, ReadsList, Read
 use Rattle.text.specs.declared.word.Found.{Found}
 use Rattle.text.specs.declared.numbers.Pair.{Pair}
 use Rattle.text.specs.declared.numbers.Values.{Values}
-use Rattle.text.specs.declared.numbers.Listed.{Listed}
 use Rattle.text.specs.declared.numbers.Headed.{Headed}
 
 module _ {A : Type 0} (w : ℕ) (a : A) (rest : List ℕ) where

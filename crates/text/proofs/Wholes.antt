@@ -11,11 +11,9 @@ use lib.IntN.{ℤ, pos, negsuc}
 use lib.ListN.{length, getD, drop}
 use borrow.Author.Tests.{eq-eqb, ne-eqb, le-leb, lt-leb, leb-true, leb-false}
 use Rattle.text.specs.Words.{isDigit, run, every, word, after, spelled, signed, ofDigits, whole}
-use Rattle.text.specs.Line.{Got, got, wrong, within, bounded, number}
-use Rattle.text.specs.Read.{cap, capped, outcome, refusal, upTo, Stands, Reads}
-use Rattle.text.specs.declared.word.Whole.{Whole}
+use Rattle.text.specs.Line.{got, wrong, within, bounded, number}
+use Rattle.text.specs.Read.{cap, capped, outcome, refusal, upTo, Reads}
 use Rattle.text.specs.declared.word.Whole.the-variants.{Nothing, Up, Down}
-use Rattle.text.specs.declared.word.Place.{Place}
 
 -- digits, or none
 module _ (minus : Bool) (ds : List ℕ) where

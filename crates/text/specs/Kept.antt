@@ -1,10 +1,10 @@
 -- How a line of any length is kept in a room of its own: what is too long keeps its front, and whether all of it is
 -- blank. Assumes nothing.
 use mathlib.Core.Path.{_≡_}
-use mathlib.Core.Bool.{Bool, not, cond}
+use mathlib.Core.Bool.{cond}
 use mathlib.Core.List.{List, [], _∷_, _++_}
 use Prim.Native.Nat.{ℕ, _+_, _-_, _≤_, _<_}
-use lib.Dec.{ltb, eqb}
+use lib.Dec.{ltb}
 use lib.ListN.{length, getD, take, drop, set}
 use Rattle.text.specs.Words.{isBlank, isText, run}
 use Rattle.text.specs.declared.lines.Piece.{Piece}

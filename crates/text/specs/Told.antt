@@ -1,7 +1,7 @@
 -- What is answered to a line: its meaning, with the two lists in arrays. Assumes nothing.
 use mathlib.Core.Path.{_≡_}
 use mathlib.Core.List.{List, _++_}
-use Prim.Native.Nat.{ℕ, _-_, _≤_}
+use Prim.Native.Nat.{_-_, _≤_}
 use lib.IntN.{ℤ, pos}
 use lib.ListN.{length, replicate}
 use Rattle.text.specs.Line.{most, Meaning, passed, unreadable, asks}

@@ -1,5 +1,4 @@
 -- `text::is_passed` meets its contract: a line without bytes is blank. Assumes nothing.
-use mathlib.Core.Path.{_≡_, sym}
 use borrow.Author.Tests.{eq-eqb, ne-eqb}
 use borrow.Author.Needs.{needs}
 use Rattle.text.specs.Line.{isPassed}

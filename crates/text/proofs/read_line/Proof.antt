@@ -1,5 +1,5 @@
 -- `text::read_line` meets its contract: the cases of a line's meaning. Assumes nothing.
-use mathlib.Core.Path.{_≡_, sym, _∙_}
+use mathlib.Core.Path.{sym, _∙_}
 use native.Mathlib.Omega.{arith}
 use borrow.Author.Needs.{needs}
 use Rattle.text.specs.Told.{shown}

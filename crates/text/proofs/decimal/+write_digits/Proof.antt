@@ -1,6 +1,6 @@
 -- `text::decimal::write_digits` meets its contract: the digits over the last one, and then the last. The number falls at
 -- each call. Assumes nothing.
-use mathlib.Core.Path.{refl, sym, ap, _∙_}
+use mathlib.Core.Path.{refl, ap}
 use Prim.Native.Nat.{ℕ, _<_}
 use native.Mathlib.Omega.{arith}
 use lib.ListN.{length, length-set}

@@ -1,6 +1,6 @@
 -- `text::decimal::size_of` meets its contract: one more than a number below 0 is taken from 0, which fits for the least
 -- number too. Assumes nothing.
-use mathlib.Core.Path.{_≡_, refl, sym, subst, _∙_}
+use mathlib.Core.Path.{_≡_, subst, _∙_}
 use mathlib.Core.Bool.{true, false}
 use Prim.Native.Nat.{ℕ, zero, suc, _+_, _<_, _^_}
 use native.Mathlib.Omega.{arith}

@@ -1,5 +1,5 @@
 -- `text::lines::keep_byte` meets its contract: the three cases of its definition. Assumes nothing.
-use mathlib.Core.Path.{_≡_, sym, _∙_}
+use mathlib.Core.Path.{sym, _∙_}
 use native.Mathlib.Omega.{arith}
 use borrow.Author.Needs.{needs}
 use Rattle.text.proofs.Keeping.{keeps-room, keeps-blank, keeps-full}

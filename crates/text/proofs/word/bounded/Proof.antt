@@ -1,5 +1,4 @@
 -- `text::word::bounded` meets its contract: the definition's test. Assumes nothing.
-use mathlib.Core.Path.{_∙_}
 use borrow.Author.Tests.{le-leb, lt-leb}
 use borrow.Author.Needs.{needs}
 use Rattle.text.proofs.word.bounded.Statement.{statement}

@@ -1,5 +1,5 @@
 -- `text::word::is_kind` meets its contract: each arm is the kind's own test. Assumes nothing.
-use mathlib.Core.Path.{_≡_, refl, ap, _∙_}
+use mathlib.Core.Path.{ap}
 use mathlib.Core.Bool.{not}
 use borrow.Author.Needs.{needs}
 use Rattle.text.specs.Words.{isSolid, isText}

@@ -1,5 +1,4 @@
 -- `text::word::next_word` meets its contract: two runs, one after the other. Assumes nothing.
-use native.Mathlib.Omega.{arith}
 use borrow.Author.Needs.{needs}
 use Rattle.text.proofs.Runs.{rest-is, stands}
 use Rattle.text.proofs.word.next_word.Statement.{statement}

@@ -1,9 +1,8 @@
 -- `text::word::spell` meets its contract: what is left to spell, after what is spelled, is the whole. Assumes nothing.
-use mathlib.Core.Path.{_≡_, sym, ap, _∙_}
-use Prim.Native.Nat.{ℕ, _-_, _≤_, min}
+use mathlib.Core.Path.{_≡_, sym, _∙_}
+use Prim.Native.Nat.{_-_, _≤_, min}
 use lib.ListN.{length, drop}
 use native.Mathlib.Omega.{arith}
-use borrow.Author.Needs.{needs}
 use Rattle.text.specs.Words.{spelled}
 use Rattle.text.specs.Read.{cap}
 use Rattle.text.proofs.Runs.{spelled-more, spelled-end}

@@ -1,5 +1,5 @@
 -- `text::word::whole_of` meets its contract: the definition's cases. Assumes nothing.
-use mathlib.Core.Path.{_≡_, sym, ap, _∙_}
+use mathlib.Core.Path.{sym, ap}
 use borrow.Author.Needs.{needs}
 use Rattle.text.specs.Read.{capped}
 use Rattle.text.proofs.Runs.{rest-is}
