@@ -4,13 +4,17 @@
 //! answer is the composed curve H = F∘G: exact numerators and rounded points.
 //! Nothing here is clever. Every choice of path points is visited, and every
 //! blossom is worked out afresh from the net, in numbers wide enough that no
-//! step can come near their ends.
+//! step can come near their ends. The door asks the same of bytes: one request
+//! record, one reply record.
 
+pub mod beside;
 pub mod binomial;
 pub mod blossom;
 pub mod composed;
+pub mod door;
 pub mod line;
 pub mod quantity;
+pub mod record;
 pub mod refusal;
 pub mod request;
 pub mod ride;

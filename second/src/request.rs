@@ -30,11 +30,17 @@ pub struct Accepted {
 }
 
 impl Request<'_> {
+    /// The shape, unless KIND or DEGREE comes before; the arrays do not
+    /// matter yet.
+    pub fn shape(&self) -> Result<Shape, Refused> {
+        let form = Form::from_number(self.form).ok_or(Refusal::Kind.at(0))?;
+        self.degrees(form).ok_or(Refusal::Degree.at(0))
+    }
+
     /// Tests the eight refusals in their order, with these rooms for the
     /// numerators and the points.
     pub fn check(&self, exact_room: usize, points_room: usize) -> Result<Accepted, Refused> {
-        let form = Form::from_number(self.form).ok_or(Refusal::Kind.at(0))?;
-        let shape = self.degrees(form).ok_or(Refusal::Degree.at(0))?;
+        let shape = self.shape()?;
         if self.surface.len() != shape.control_count() {
             return Err(Refusal::Surface.at(0));
         }
@@ -46,7 +52,7 @@ impl Request<'_> {
         }
         let surface = each(self.surface, Travel::new).map_err(|at| Refusal::Value.at(at))?;
         let path = each(self.path, PathNumber::new).map_err(|at| Refusal::Parameter.at(at))?;
-        if form == Form::Triangle {
+        if shape.form == Form::Triangle {
             let unbalanced = |point: &[i32]| point.iter().sum::<i32>() != SCALE;
             if let Some(at) = self.path.chunks(3).position(unbalanced) {
                 return Err(Refusal::Balance.at(at));

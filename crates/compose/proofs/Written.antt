@@ -9,7 +9,7 @@ use lib.ListN.{length, getD, drop, set, length-append, length-drop}
 use lib.Seq.{drop-cons, set-at, getD-append-add, getD-drop}
 use Rattle.compose.specs.Afterwards.{listBelow, afterwards}
 
-below-at {ℓ} : {A : Type ℓ} (n : ℕ) (f : ℕ → A) (tail : List A) (i : ℕ) (d : A) → i < n → getD (listBelow n f ++ tail) i d ≡ f i
+pub below-at {ℓ} : {A : Type ℓ} (n : ℕ) (f : ℕ → A) (tail : List A) (i : ℕ) (d : A) → i < n → getD (listBelow n f ++ tail) i d ≡ f i
 unfolding listBelow
 below-at zero f tail i d h = absurd (not-suc-le-zero h)
 below-at (suc n) f tail zero d h = refl
@@ -25,7 +25,7 @@ unfolding listBelow
 below-last zero f = refl
 below-last (suc n) f = ap (λ l. f 0 ∷ l) (below-last n (λ k. f (suc k)))
 
-below-length {ℓ} : {A : Type ℓ} (n : ℕ) (f : ℕ → A) → length (listBelow n f) ≡ n
+pub below-length {ℓ} : {A : Type ℓ} (n : ℕ) (f : ℕ → A) → length (listBelow n f) ≡ n
 unfolding listBelow
 below-length zero f = refl
 below-length (suc n) f = ap suc (below-length n (λ k. f (suc k)))

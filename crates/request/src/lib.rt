@@ -23,7 +23,7 @@ pub struct Answer {
     pub count: usize,
 }
 
-fn refusal(number: u32, place: usize) -> Answer
+pub fn refusal(number: u32, place: usize) -> Answer
     ensures { λ r. ⌜ r ≡ refused number place ⌝ }
 {
     Answer {
@@ -76,7 +76,7 @@ pub fn degree(head: Head) -> u64
 }
 
 // How many control values the head asks for.
-fn surface_count(head: Head) -> usize
+pub fn surface_count(head: Head) -> usize
     requires { ⌜ notDegree head ≡ false ⌝ }
     ensures { λ r. ⌜ r ≡ surfaceCount head ⌝ }
 {
@@ -92,7 +92,7 @@ fn surface_count(head: Head) -> usize
 }
 
 // How many path numbers the head asks for.
-fn path_count(head: Head) -> usize
+pub fn path_count(head: Head) -> usize
     requires { ⌜ notDegree head ≡ false ⌝ }
     ensures { λ r. ⌜ r ≡ pathCount head ⌝ }
 {

@@ -26,13 +26,13 @@ pub fn product(a: Num, b: Num) -> Num
 
 // ---- a number by its sign and its size
 
-fn negative(n: Num) -> bool
+pub fn negative(n: Num) -> bool
     ensures { λ r. ⌜ r ≡ not (nonNeg (n .0)) ⌝ }
 {
     n.0 < 0
 }
 
-fn size(n: Num) -> u64
+pub fn size(n: Num) -> u64
     ensures { λ r. ⌜ (r ≡ natAbs (n .0)) × (mag (n .0) < 2 ^ 63) ⌝ }
 {
     if n.0 < 0 {
@@ -49,7 +49,7 @@ pub fn plus(x: u64) -> Num
     Num(x as i64)
 }
 
-fn minus(x: u64) -> Num
+pub fn minus(x: u64) -> Num
     requires { ⌜ x ≤ 2 ^ 63 ⌝ }
     ensures { λ r. ⌜ r .0 ≡ negℤ (pos x) ⌝ }
 {

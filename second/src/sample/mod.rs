@@ -2,6 +2,8 @@
 
 mod draft;
 mod fault;
+mod frame;
+pub mod records;
 mod text;
 
 use crate::line::Asked;
@@ -97,13 +99,7 @@ impl Sampler {
 
     /// The next sample.
     pub fn draw(&mut self) -> Sample {
-        let all = KINDS.iter().map(|(_, share)| share).sum();
-        let mut left = self.rng.below(all);
-        let mut at = 0;
-        while left >= KINDS[at].1 {
-            left -= KINDS[at].1;
-            at += 1;
-        }
+        let at = share(&mut self.rng, &KINDS);
         let turn = self.turns[at];
         self.turns[at] += 1;
         match KINDS[at].0 {
@@ -309,6 +305,17 @@ impl Sampler {
             line,
         }
     }
+}
+
+/// The place in a table of shares on which a draw falls.
+fn share<T>(rng: &mut Xorshift, table: &[(T, usize)]) -> usize {
+    let mut left = rng.below(table.iter().map(|(_, share)| share).sum());
+    let mut at = 0;
+    while left >= table[at].1 {
+        left -= table[at].1;
+        at += 1;
+    }
+    at
 }
 
 /// A refusal's number and name.

@@ -1,0 +1,41 @@
+-- From the composer's promise to the door's: the arrays that were read hold the request of the record. Assumes nothing.
+use mathlib.Core.Path.{_≡_}
+use mathlib.Core.List.{List}
+use Prim.Native.Nat.{ℕ, _+_, _*_}
+use lib.IntN.{ℤ}
+use lib.ListN.{length, take}
+use lib.Seq.{take-at}
+use Rattle.request.specs.declared.Answer.{Answer}
+use Rattle.request.specs.declared.Head.{Head}
+use Rattle.request.specs.Head.{surfaceCount, pathCount}
+use Rattle.request.specs.Request.{Request}
+use Rattle.request.specs.Refusal.{answer}
+use Rattle.compose.specs.Afterwards.{listBelow, afterwards, pointsAfter}
+use Rattle.compose.specs.Contract.{requestOf, Composed}
+use Rattle.compose.proofs.Written.{below-length}
+use Rattle.door.specs.Bytes.{numberAt}
+use Rattle.door.specs.Record.{start, headIn, pathStart, requestIn}
+use Rattle.door.specs.Judgement.{mostPoints}
+use Rattle.door.specs.Parts.{Given}
+
+-- the first places of an array are what was written to them
+pub first-places : {A : Type 0} (count : ℕ) (f : ℕ → A) (lent : List A) → take count (afterwards count f lent) ≡ listBelow count f
+unfolding afterwards
+first-places count f lent = take-at (listBelow count f) _ count (below-length count f)
+
+-- the composer is given the request of the record
+pub request-read : (request : List ℕ) (head : Head) (s p : ℕ) (surface path surface′ path′ : List ℤ) → head ≡ headIn request → s ≡ surfaceCount head
+    → p ≡ pathCount head → surface′ ≡ afterwards s (numberAt request start) surface → path′ ≡ afterwards p (numberAt request (start + 2 * s)) path
+    → requestOf (head .form) (head .first) (head .second) (head .N) (take s surface′) (take p path′) ≡ requestIn request
+unfolding requestOf requestIn pathStart
+request-read request head s p surface path surface′ path′ h es ep f g = rw (f, g, first-places s _ surface, first-places p _ path, es, ep, h)
+
+-- what it answers and leaves in the points is what the door answers and sends
+pub composed-given : (request : List ℕ) (rq : Request) (exact points exact′ points′ : List ℤ) (a : Answer) → rq ≡ requestIn request
+    → length exact ≡ mostPoints → length points ≡ mostPoints → Composed rq exact points a exact′ points′
+    → Given request (answer (requestIn request) mostPoints mostPoints) points a points′
+unfolding pointsAfter
+composed-given request rq exact points exact′ points′ a e l m k = record {
+  answered = rw (← e) (rw (l, m) at (k .answered));
+  points-is = rw (← e) (rw (l, m) at (k .points-is));
+}

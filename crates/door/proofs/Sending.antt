@@ -1,0 +1,124 @@
+-- What is answered at the door fits a reply: number, place and count a byte each, and each point two bytes. Assumes nothing.
+use mathlib.Core.Path.{_≡_, ap}
+use mathlib.Core.Bool.{Bool, true, false, cond}
+use mathlib.Core.List.{List, [], append-nil}
+use Prim.Native.Nat.{ℕ, _≤_, _<_}
+use native.Mathlib.Nat.{mul-le-mul}
+use native.Mathlib.Decide.{ℕ-discrete}
+use native.Mathlib.Omega.{arith}
+use lib.IntN.{ℤ, pos, negsuc, natAbs}
+use lib.ListN.{length, getD, take}
+use Rattle.request.specs.declared.Answer.{Answer}
+use Rattle.request.specs.declared.Head.{Head}
+use Rattle.request.specs.Head.{longest, surfaceCount, pathCount}
+use Rattle.request.specs.Request.{Request}
+use Rattle.request.specs.Refusal.{notKind, notDegree, notSurface, notPath, notRoom, notValue, notParameter, notBalance, valuePlace, parameterPlace, balancePlace, refused, accepted, answer, answerNumbers}
+use Rattle.request.proofs.Forms.{small, degree-most}
+use Rattle.request.proofs.Bounds.{value-most, parameter-most, balance-most}
+use Rattle.net.specs.Composed.{point}
+use Rattle.net.proofs.Bounds.{point-size}
+use Rattle.compose.proofs.Written.{below-at, below-length}
+use Rattle.compose.proofs.Acceptance.{accepts, refused-none}
+use Rattle.compose.proofs.Entry.{composable}
+use Rattle.door.specs.Bytes.{Short}
+use Rattle.door.specs.Record.{headIn, requestIn}
+use Rattle.door.specs.Judgement.{mostPoints, judged}
+use Rattle.door.specs.Contract.{pointsOf}
+use Rattle.door.specs.Parts.{Given, InBytes, Sendable}
+use Rattle.door.proofs.Sizes.{surface-most, path-most}
+use Rattle.door.proofs.Order.{Passed, judged-is}
+use Rattle.door.proofs.Composing.{first-places}
+
+pub longest-most : (h : Head) → notDegree h ≡ false → longest h ≤ 12
+unfolding longest
+longest-most h d = mul-le-mul (degree-most h d) (small h d .N-most)
+
+-- ---- the answer
+refusal-fits : (number place : ℕ) → number < 256 → place < 256 → InBytes (refused number place)
+unfolding refused
+refusal-fits number place m n = record { number-fits = m; place-fits = n; few = omega arith }
+
+either : (test : Bool) (number place : ℕ) (next : Answer) → number < 256 → place < 256 → InBytes next → InBytes (cond test (refused number place) next)
+either true number place next m n f = refusal-fits number place m n
+either false number place next m n f = f
+
+module _ (rq : Request) (d : notDegree (rq .head) ≡ false) (s : length (rq .surface) ≤ 15) (p : length (rq .path) ≤ 12) where
+  accepted-fits : InBytes (accepted (rq .head))
+  unfolding accepted
+  accepted-fits = record { number-fits = omega arith; place-fits = omega arith; few = omega (arith, longest-most (rq .head) d) }
+
+  composer-fits : (e q : ℕ) → InBytes (answer rq e q)
+  unfolding answer answerNumbers
+  composer-fits e q =
+      either (notKind (rq .head)) 1 0 _ (omega arith) (omega arith)
+      (either (notDegree (rq .head)) 2 0 _ (omega arith) (omega arith)
+      (either (notSurface rq) 3 0 _ (omega arith) (omega arith)
+      (either (notPath rq) 4 0 _ (omega arith) (omega arith)
+      (either (notRoom (rq .head) e q) 5 0 _ (omega arith) (omega arith)
+      (either (notValue rq) 6 (valuePlace (rq .surface)) _ (omega arith) (omega (arith, value-most (rq .surface)))
+      (either (notParameter rq) 7 (parameterPlace (rq .path)) _ (omega arith) (omega (arith, parameter-most (rq .path)))
+      (either (notBalance rq) 8 (balancePlace (rq .path) (rq .head .N)) _ (omega arith) (omega (arith, balance-most (rq .path) (rq .head .N), small (rq .head) d .N-most))
+      accepted-fits)))))))
+
+-- as many numbers as the head asks for
+pub surface-read : (request : List ℕ) → length (requestIn request .surface) ≡ surfaceCount (headIn request)
+unfolding requestIn
+surface-read request = below-length _ _
+
+pub path-read : (request : List ℕ) → length (requestIn request .path) ≡ pathCount (headIn request)
+unfolding requestIn
+path-read request = below-length _ _
+
+passed-fits : (request : List ℕ) → Passed request → InBytes (answer (requestIn request) mostPoints mostPoints)
+unfolding requestIn
+passed-fits request ok =
+    composer-fits (requestIn request) (ok .degrees)
+    (omega (arith, surface-read request, surface-most (headIn request) (ok .degrees)))
+    (omega (arith, path-read request, path-most (headIn request) (ok .degrees)))
+    mostPoints mostPoints
+
+pub judged-fits : (request : List ℕ) → InBytes (judged request)
+judged-fits request =
+    judged-is request InBytes (refusal-fits 9 0 (omega arith) (omega arith)) (refusal-fits 1 0 (omega arith) (omega arith)) (refusal-fits 2 0 (omega arith) (omega arith))
+    (passed-fits request)
+
+-- ---- the points
+composer-point : (rq : Request) (e q R : ℕ) → R < answer rq e q .count → natAbs (point rq R) ≤ 4096
+unfolding accepted
+composer-point rq e q R m = go (ℕ-discrete (answer rq e q .number) 0)
+  where
+    go : Dec (answer rq e q .number ≡ 0) → natAbs (point rq R) ≤ 4096
+    go (yes z) = let f = accepts rq e q z in point-size rq (composable rq e q f) R (omega (arith, ap (λ (a : Answer). a .count) (f .answered)))
+    go (no n) = absurd (omega (arith, refused-none rq e q n))
+
+-- no point is above the greatest travel
+pub point-most : (request : List ℕ) (R : ℕ) → R < judged request .count → natAbs (point (requestIn request) R) ≤ 4096
+unfolding refused
+point-most request R =
+    judged-is request (λ a. R < a .count → natAbs (point (requestIn request) R) ≤ 4096) (λ m. absurd (omega arith)) (λ m. absurd (omega arith)) (λ m. absurd (omega arith))
+    (λ ok. composer-point (requestIn request) mostPoints mostPoints R)
+
+short : (z : ℤ) → natAbs z ≤ 4096 → Short z
+short (pos n) m = omega arith
+short (negsuc n) m = omega arith
+
+pub points-at : (request : List ℕ) (R : ℕ) → R < judged request .count → getD (pointsOf request) R (pos 0) ≡ point (requestIn request) R
+unfolding pointsOf
+points-at request R m = rw append-nil at (below-at (judged request .count) (point (requestIn request)) [] R (pos 0) m)
+
+pub points-length : (request : List ℕ) → length (pointsOf request) ≡ judged request .count
+unfolding pointsOf
+points-length request = below-length _ _
+
+pub sendable : (request : List ℕ) → Sendable (judged request) (pointsOf request)
+sendable request = record {
+  bytes = judged-fits request;
+  all-points = points-length request;
+  short = record { each = λ k m. let l : k < judged request .count = omega (arith, points-length request) in rw (points-at request k l) (short (point (requestIn request) k) (point-most request k l)) };
+}
+
+-- what is sent of the places that the composer was lent
+pub points-sent : (request : List ℕ) (points : List ℤ) (a : Answer) (points′ : List ℤ) → Given request (judged request) points a points′
+    → take (a .count) points′ ≡ pointsOf request
+unfolding pointsOf
+points-sent request points a points′ g = rw (g .points-is, g .answered) (first-places _ _ points)

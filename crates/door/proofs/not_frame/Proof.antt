@@ -1,0 +1,29 @@
+-- `door::not_frame` meets its contract: one test after the other. Assumes nothing.
+use borrow.Author.Tests.{lt-ltb, le-ltb, eq-eqb, ne-eqb}
+use Rattle.door.specs.Record.{lengthField, kindField}
+use Rattle.door.specs.Judgement.{notFrame}
+use borrow.Author.Needs.{needs}
+use Rattle.door.proofs.not_frame.Statement.{statement}
+use Rattle.door.proofs.not_frame.Tie as tie
+
+returns : tie.Need-returns
+unfolding notFrame
+returns c = rw (lt-ltb _ _ (c .if1 .taken))
+
+word-at-requires : tie.Need-word-at-requires
+word-at-requires c κs = search needs
+
+returns-2 : tie.Need-returns-2
+unfolding notFrame lengthField
+returns-2 c = rw (le-ltb _ _ (c .before .before .if1 .left), ← c .before .word-at .ensures .0, ne-eqb _ _ (c .if2 .taken))
+
+word-at-requires-2 : tie.Need-word-at-requires-2
+word-at-requires-2 c κs = search needs
+
+returns-3 : tie.Need-returns-3
+unfolding notFrame lengthField kindField
+returns-3 c = rw (le-ltb _ _ (c .before .before .before .if1 .left), ← c .before .before .word-at .ensures .0, ← c .word-at2 .ensures .0, eq-eqb _ _ (c .before .if2 .left))
+
+pub not-frame-spec : {M : Type 1} → statement M
+not-frame-spec =
+    tie.close (tie.spec returns word-at-requires returns-2 word-at-requires-2 returns-3)

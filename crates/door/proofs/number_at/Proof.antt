@@ -1,0 +1,36 @@
+-- `door::number_at` meets its contract: the upper half of the unsigned numbers are the negative ones. Assumes nothing.
+use mathlib.Core.Path.{_≡_, sym, ap, _∙_}
+use Prim.Native.Nat.{ℕ, _<_}
+use native.Mathlib.Omega.{arith}
+use lib.IntN.{ℤ}
+use Rattle.door.specs.Bytes.{all, Short, signed}
+use Rattle.door.proofs.Numbers.{signed-below, signed-above, signed-short}
+use native.Mathlib.Omega.{arith}
+use borrow.Author.Needs.{needs}
+use Rattle.door.proofs.number_at.Statement.{statement}
+use Rattle.door.proofs.number_at.Tie as tie
+
+read : {r : ℤ} (word here : ℕ) → r ≡ signed word → (word ≡ here) × (word < all) → (r ≡ signed here) × Short r
+read word here e w = (e ∙ ap signed (w .0), rw e (signed-short word (w .1)))
+
+word-at-requires : tie.Need-word-at-requires
+word-at-requires c κs = search needs
+
+plus-requires : tie.Need-plus-requires
+plus-requires c κs = search needs
+
+sub-minus : tie.Need-sub-minus
+sub-minus c = search needs
+
+minus-requires : tie.Need-minus-requires
+minus-requires c κs = search needs
+
+returns : tie.Need-returns
+returns c = read _ _ (c .plus .ensures ∙ sym (signed-below (c .before .before .word-at .result) (omega arith))) (c .before .before .word-at .ensures)
+
+returns-2 : tie.Need-returns-2
+returns-2 c = read _ _ (c .minus .ensures ∙ sym (signed-above (c .before .before .word-at .result) (omega arith))) (c .before .before .word-at .ensures)
+
+pub number-at-spec : {M : Type 1} → statement M
+number-at-spec =
+    tie.close (tie.spec word-at-requires plus-requires sub-minus minus-requires returns returns-2)

@@ -1,0 +1,40 @@
+-- The door's contract: two equations that fix the answered count and every byte of the reply slice, for every request and
+-- every reply slice. Assumes nothing.
+use mathlib.Core.Path.{_≡_}
+use mathlib.Core.Bool.{cond}
+use mathlib.Core.List.{List, _++_}
+use Prim.Native.Nat.{ℕ, _+_, _*_}
+use lib.IntN.{ℤ}
+use lib.Dec.{ltb}
+use lib.ListN.{length, drop}
+use Rattle.net.specs.Composed.{point}
+use Rattle.compose.specs.Afterwards.{listBelow}
+use Rattle.door.specs.Record.{start, requestIn, replyRecord}
+use Rattle.door.specs.Judgement.{mostPoints, judged}
+
+-- the points of the reply, as many as the answer's count
+unfoldable pub pointsOf : List ℕ → List ℤ
+pointsOf request = listBelow (judged request .count) (point (requestIn request))
+
+-- the reply to a request
+unfoldable pub replyOf : List ℕ → List ℕ
+replyOf request = replyRecord (judged request) (pointsOf request)
+
+-- what is written, and "the slice beyond the reply stays"
+unfoldable pub over {ℓ} : {A : Type ℓ} → List A → List A → List A
+over written lent = written ++ drop (length written) lent
+
+-- "Under 34 bytes of reply room": 8 and two for each of the most points
+abbrev pub room : ℕ
+room = start + 2 * mostPoints
+
+-- "nothing is written and 0 is answered; otherwise the reply's byte count is answered"
+unfoldable pub countAnswered : List ℕ → List ℕ → ℕ
+countAnswered request reply = cond (ltb (length reply) room) 0 (length (replyOf request))
+
+unfoldable pub replyAfter : List ℕ → List ℕ → List ℕ
+replyAfter request reply = cond (ltb (length reply) room) reply (over (replyOf request) reply)
+
+pub record Answered (request reply : List ℕ) (count : ℕ) (reply′ : List ℕ) : Type 0 where
+  pub counted : count ≡ countAnswered request reply
+  pub written : reply′ ≡ replyAfter request reply

@@ -1,0 +1,68 @@
+-- Records worked through the definitions: document 01's P1 and P2 as bytes, and each way to be refused at the door.
+-- Assumes nothing.
+use mathlib.Core.Path.{_≡_, refl}
+use mathlib.Core.List.{List, [], _∷_, map}
+use Prim.Native.Nat.{ℕ}
+use Rattle.whole.specs.Sum.{sumOver, sumTo}
+use Rattle.whole.specs.Choose.{choose}
+use Rattle.whole.specs.Round.{nearest, floorZ}
+use Rattle.units.specs.Bounds.{beyondTravel, beyondPath}
+use Rattle.request.specs.Head.{byForm, degree, longest, surfaceCount, pathCount, numbers}
+use Rattle.request.specs.Refusal.{answer, answerNumbers, refused, accepted, least, notKind, notDegree, notSurface, notPath, notRoom, notValue, notParameter, notBalance, valuePlace, parameterPlace, balancePlace, uneven, isNumber}
+use Rattle.net.specs.Net.{rowStart, placeOf, netOf, numberAt as pathNumberAt, pathNumber}
+use Rattle.net.specs.Blossom.{step, blossom}
+use Rattle.net.specs.Composed.{overChoices, total, weight, arguments, numerator, denominator, point}
+use Rattle.compose.specs.Afterwards.{listBelow}
+use Rattle.door.specs.Bytes.{wordBytes, wordAt, unsigned, signed, numberBytes, numberAt}
+use Rattle.door.specs.Record.{lengthField, kindField, recordStart, recordOf, headIn, pathStart, bodyEnd, requestIn, answerBytes, replyRecord}
+use Rattle.door.specs.Judgement.{notFrame, notBody, tests, inOrder, judged}
+use Rattle.door.specs.Contract.{pointsOf, replyOf}
+
+pub record Exchange : Type 0 where
+  pub request : List ℕ
+  pub reply : List ℕ
+
+-- a refusal's reply
+unfoldable pub refusalBytes : ℕ → ℕ → List ℕ
+refusalBytes number place = 8 ∷ 0 ∷ 0x01 ∷ 0x80 ∷ number ∷ place ∷ 0 ∷ 0 ∷ []
+
+unfoldable pub exchanges : List Exchange
+exchanges =
+    -- P1: F 0, 100; path 0, 1024; points 0, 100
+    record {
+      request = 16 ∷ 0 ∷ 1 ∷ 0 ∷ 1 ∷ 1 ∷ 0 ∷ 1 ∷ 0 ∷ 0 ∷ 100 ∷ 0 ∷ 0 ∷ 0 ∷ 0 ∷ 4 ∷ [];
+      reply = 12 ∷ 0 ∷ 0x01 ∷ 0x80 ∷ 0 ∷ 0 ∷ 2 ∷ 0 ∷ 0 ∷ 0 ∷ 100 ∷ 0 ∷ [];
+    }
+    -- P2: F 2, 3, −2; path 0, 1024; points 2, 3, −2
+    ∷ record {
+      request = 18 ∷ 0 ∷ 1 ∷ 0 ∷ 1 ∷ 2 ∷ 0 ∷ 1 ∷ 2 ∷ 0 ∷ 3 ∷ 0 ∷ 0xfe ∷ 0xff ∷ 0 ∷ 0 ∷ 0 ∷ 4 ∷ [];
+      reply = 14 ∷ 0 ∷ 0x01 ∷ 0x80 ∷ 0 ∷ 0 ∷ 3 ∷ 0 ∷ 2 ∷ 0 ∷ 3 ∷ 0 ∷ 0xfe ∷ 0xff ∷ [];
+    }
+    -- FRAME: seven bytes
+    ∷ record { request = 7 ∷ 0 ∷ 1 ∷ 0 ∷ 9 ∷ 9 ∷ 9 ∷ []; reply = refusalBytes 9 0 }
+    -- FRAME: a length that is not the slice's, before the form
+    ∷ record { request = 0 ∷ 8 ∷ 1 ∷ 0 ∷ 9 ∷ 9 ∷ 9 ∷ 9 ∷ []; reply = refusalBytes 9 0 }
+    -- FRAME: another kind, by its high byte
+    ∷ record { request = 8 ∷ 0 ∷ 1 ∷ 1 ∷ 9 ∷ 9 ∷ 9 ∷ 9 ∷ []; reply = refusalBytes 9 0 }
+    -- KIND before DEGREE, and both before the body's length
+    ∷ record { request = 8 ∷ 0 ∷ 1 ∷ 0 ∷ 4 ∷ 9 ∷ 9 ∷ 9 ∷ []; reply = refusalBytes 1 0 }
+    ∷ record { request = 8 ∷ 0 ∷ 1 ∷ 0 ∷ 1 ∷ 5 ∷ 0 ∷ 0 ∷ []; reply = refusalBytes 2 0 }
+    -- FRAME: a body one byte too long
+    ∷ record { request = 13 ∷ 0 ∷ 1 ∷ 0 ∷ 1 ∷ 0 ∷ 0 ∷ 0 ∷ 7 ∷ 0 ∷ 0 ∷ 0 ∷ 0 ∷ []; reply = refusalBytes 9 0 }
+    -- VALUE: 4097 at index 1, also where a path number is 1025
+    ∷ record {
+      request = 14 ∷ 0 ∷ 1 ∷ 0 ∷ 1 ∷ 1 ∷ 0 ∷ 0 ∷ 0 ∷ 0 ∷ 1 ∷ 16 ∷ 1 ∷ 4 ∷ [];
+      reply = refusalBytes 6 1;
+    }
+    -- PARAMETER: −1
+    ∷ record { request = 12 ∷ 0 ∷ 1 ∷ 0 ∷ 1 ∷ 0 ∷ 0 ∷ 0 ∷ 7 ∷ 0 ∷ 0xff ∷ 0xff ∷ []; reply = refusalBytes 7 0 }
+    -- BALANCE: (512, 256, 255)
+    ∷ record {
+      request = 16 ∷ 0 ∷ 1 ∷ 0 ∷ 3 ∷ 0 ∷ 0 ∷ 0 ∷ 7 ∷ 0 ∷ 0 ∷ 2 ∷ 0 ∷ 1 ∷ 255 ∷ 0 ∷ [];
+      reply = refusalBytes 8 0;
+    }
+    ∷ []
+
+pub as-stated : map (λ (e : Exchange). replyOf (e .request)) exchanges ≡ map (λ (e : Exchange). e .reply) exchanges
+unfolding refusalBytes exchanges wordBytes wordAt unsigned signed numberBytes numberAt lengthField kindField recordStart recordOf headIn pathStart bodyEnd requestIn answerBytes replyRecord notFrame notBody tests inOrder judged pointsOf replyOf listBelow answer answerNumbers refused accepted least notKind notDegree notSurface notPath notRoom notValue notParameter notBalance valuePlace parameterPlace balancePlace beyondTravel beyondPath uneven isNumber byForm degree longest surfaceCount pathCount numbers rowStart placeOf netOf pathNumberAt pathNumber step blossom overChoices total weight arguments numerator denominator point nearest floorZ sumTo sumOver choose
+as-stated = refl

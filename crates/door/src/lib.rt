@@ -1,0 +1,247 @@
+// The door for the drive's firmware: one request slice, one lent reply slice. The records are in specs/Record.antt, the
+// order of judgement in specs/Judgement.antt; of the composer only its promise is known here.
+ghost use mathlib.Core.Path.{_≡_};
+ghost use mathlib.Core.Bool.{false};
+ghost use mathlib.Core.List.{_++_};
+ghost use Prim.Native.Nat.{_+_, _*_, _/_, _%_, _≤_, _<_};
+ghost use lib.ListN.{length, set};
+ghost use Rattle.request.specs.Refusal.{notDegree, refused, answer};
+ghost use Rattle.compose.specs.Afterwards.{afterwards};
+ghost use Rattle.door.specs.Bytes.{all, Short, wordAt, unsigned, signed, numberBytes, numberAt};
+ghost use Rattle.door.specs.Record.{start, replyKind, recordStart, headIn, bodyEnd, requestIn, answerBytes, replyRecord};
+ghost use Rattle.door.specs.Judgement.{mostPoints, notFrame, judged};
+ghost use Rattle.door.specs.Contract.{over, room, Answered};
+ghost use Rattle.door.specs.Parts.{AllShort, Whole, Given, InBytes, Sendable};
+use request::Answer;
+use request::Head;
+use whole::Num;
+
+// The kinds of the two records, and where a record's numbers begin.
+const REQUEST_KIND: u64 = 0x0001;
+
+const REPLY_KIND: u64 = 0x8001;
+
+const START: usize = 8;
+
+// As many control values, path numbers and points as the greatest degrees ask for.
+const MOST_VALUES: usize = 15;
+
+const MOST_PATH_NUMBERS: usize = 12;
+
+const MOST_POINTS: usize = 13;
+
+// The bytes of the longest reply.
+const ROOM: usize = 34;
+
+// ---- numbers of two bytes
+
+fn wide(x: u8) -> u64
+    ensures { λ r. ⌜ (r ≡ x) × (r < 256) ⌝ }
+{
+    x as u64
+}
+
+// The unsigned number at byte k.
+fn word_at(bytes: &[u8], k: usize) -> u64
+    requires { ⌜ k + 1 < length (now bytes) ⌝ }
+    ensures { λ r. ⌜ (r ≡ wordAt (now (bytes .entry)) k) × (r < all) ⌝ }
+{
+    let low = wide(bytes[k]);
+    let high = wide(bytes[k + 1]);
+    low + 256 * high
+}
+
+// The signed number at byte k.
+fn number_at(bytes: &[u8], k: usize) -> Num
+    requires { ⌜ k + 1 < length (now bytes) ⌝ }
+    ensures { λ r. ⌜ (r .0 ≡ signed (wordAt (now (bytes .entry)) k)) × Short (r .0) ⌝ }
+{
+    let word = word_at(bytes, k);
+    if word < 32768 {
+        whole::plus(word)
+    } else {
+        whole::minus(65536 - word)
+    }
+}
+
+// A signed number as an unsigned one.
+fn word_of(n: Num) -> u64
+    requires { ⌜ Short (n .0) ⌝ }
+    ensures { λ r. ⌜ (r ≡ unsigned (n .0)) × (r < all) ⌝ }
+{
+    let size = whole::size(n);
+    if whole::negative(n) {
+        65536 - size
+    } else {
+        size
+    }
+}
+
+fn put_word(bytes: &mut [u8], k: usize, word: u64)
+    requires { ⌜ (k + 1 < length (now bytes)) × (word < all) ⌝ }
+    ensures { λ _. ⌜ now (bytes .exit) ≡ set (set (now (bytes .entry)) k (word % 256)) (k + 1) (word / 256) ⌝ }
+{
+    bytes[k] = (word % 256) as u8;
+    bytes[k + 1] = (word / 256) as u8;
+}
+
+fn put_number(numbers: &mut [i32], k: usize, n: Num)
+    requires { ⌜ (k < length (now numbers)) × Short (n .0) ⌝ }
+    ensures { λ _. ⌜ now (numbers .exit) ≡ set (now (numbers .entry)) k (n .0) ⌝ }
+{
+    let v = n.0 as i32;
+    numbers[k] = v;
+}
+
+// Reads `count` numbers that begin at byte `from` into the first places of `numbers`.
+fn read_numbers(bytes: &[u8], from: usize, count: usize, numbers: &mut [i32])
+    requires { ⌜ (count ≤ length (now numbers)) × (from + 2 * count ≤ length (now bytes)) ⌝ }
+    ensures { λ _. ⌜ now (numbers .exit) ≡ afterwards count (numberAt (now (bytes .entry)) from) (now (numbers .entry)) ⌝ }
+{
+    let mut k = 0;
+    while k < count {
+        put_number(numbers, k, number_at(bytes, from + 2 * k));
+        k += 1;
+    }
+}
+
+// Writes the numbers, two bytes each, from the first byte on.
+fn write_numbers(numbers: &[i32], bytes: &mut [u8])
+    requires { ⌜ (2 * length (now numbers) ≤ length (now bytes)) × AllShort (now numbers) ⌝ }
+    ensures { λ _. ⌜ now (bytes .exit) ≡ over (numberBytes (now (numbers .entry))) (now (bytes .entry)) ⌝ }
+{
+    let mut k = 0;
+    while k < numbers.len() {
+        let n = units::units_of(units::travel_at(numbers, k));
+        put_word(bytes, 2 * k, word_of(n));
+        k += 1;
+    }
+}
+
+// ---- the request
+
+// 9 FRAME, before anything else.
+fn not_frame(request: &[u8]) -> bool
+    ensures { λ r. ⌜ r ≡ notFrame (now (request .entry)) ⌝ }
+{
+    if request.len() < START {
+        return true;
+    }
+    if word_at(request, 0) != request.len() as u64 {
+        return true;
+    }
+    word_at(request, 2) != REQUEST_KIND
+}
+
+fn head_in(request: &[u8]) -> Head
+    requires { ⌜ start ≤ length (now request) ⌝ }
+    ensures { λ h. ⌜ h ≡ headIn (now (request .entry)) ⌝ }
+{
+    Head {
+        form: request[4] as u32,
+        first: request[5] as u32,
+        second: request[6] as u32,
+        N: request[7] as u32,
+    }
+}
+
+// How long the head says that the record is.
+fn body_end(head: Head) -> usize
+    requires { ⌜ notDegree head ≡ false ⌝ }
+    ensures { λ r. ⌜ r ≡ bodyEnd head ⌝ }
+{
+    START + 2 * request::surface_count(head) + 2 * request::path_count(head)
+}
+
+// The composer's answer to the request in a record whose degrees and length are right.
+fn compose_in(request: &[u8], head: Head, points: &mut [i32]) -> Answer
+    requires { ⌜ Whole (now request) head × (length (now points) ≡ mostPoints) ⌝ }
+    ensures { λ a. ⌜ Given (now (request .entry)) (answer (requestIn (now (request .entry))) mostPoints mostPoints) (now (points .entry)) a (now (points .exit)) ⌝ }
+{
+    let surface_count = request::surface_count(head);
+    let path_count = request::path_count(head);
+    let mut surface = [0i32; MOST_VALUES];
+    let mut path = [0i32; MOST_PATH_NUMBERS];
+    let mut exact = [0i64; MOST_POINTS];
+    read_numbers(request, START, surface_count, &mut surface);
+    read_numbers(request, START + 2 * surface_count, path_count, &mut path);
+    compose::compose(
+        head.form,
+        head.first,
+        head.second,
+        head.N,
+        &surface[..surface_count],
+        &path[..path_count],
+        &mut exact,
+        points,
+    )
+}
+
+// 9 FRAME, place 0.
+fn frame() -> Answer
+    ensures { λ r. ⌜ r ≡ refused 9 0 ⌝ }
+{
+    request::refusal(9, 0)
+}
+
+// The order of judgement: FRAME, KIND, DEGREE, the body's FRAME, and then the composer.
+fn judge_record(request: &[u8], points: &mut [i32]) -> Answer
+    requires { ⌜ length (now points) ≡ mostPoints ⌝ }
+    ensures { λ a. ⌜ Given (now (request .entry)) (judged (now (request .entry))) (now (points .entry)) a (now (points .exit)) ⌝ }
+{
+    if not_frame(request) {
+        return frame();
+    }
+    let head = head_in(request);
+    if request::not_kind(head) {
+        return request::refusal(1, 0);
+    }
+    if request::not_degree(head) {
+        return request::refusal(2, 0);
+    }
+    if request.len() != body_end(head) {
+        return frame();
+    }
+    compose_in(request, head, points)
+}
+
+// ---- the reply
+
+// Writes a reply's first eight bytes.
+fn write_head(a: Answer, size: u64, reply: &mut [u8])
+    requires { ⌜ InBytes a × (size < all) × (start ≤ length (now reply)) ⌝ }
+    ensures { λ _. ⌜ now (reply .exit) ≡ over (recordStart size replyKind ++ answerBytes a) (now (reply .entry)) ⌝ }
+{
+    put_word(reply, 0, size);
+    put_word(reply, 2, REPLY_KIND);
+    reply[4] = a.number as u8;
+    reply[5] = a.place as u8;
+    reply[6] = a.count as u8;
+    reply[7] = 0;
+}
+
+// Writes the reply and answers its byte count. What stands beyond it stays.
+fn write_reply(a: Answer, points: &[i32], reply: &mut [u8]) -> usize
+    requires { ⌜ Sendable a (now points) × (room ≤ length (now reply)) ⌝ }
+    ensures { λ n. ⌜ (n ≡ length (replyRecord a (now (points .entry)))) × (now (reply .exit) ≡ over (replyRecord a (now (points .entry))) (now (reply .entry))) ⌝ }
+{
+    let size = START + 2 * points.len();
+    write_head(a, size as u64, reply);
+    write_numbers(points, &mut reply[START..]);
+    size
+}
+
+// Judges a request and composes it. Under 34 bytes of reply room nothing is written and 0 is answered; otherwise the reply
+// is written to the front of `reply` and its byte count is answered. The two slices never overlap.
+#[no_mangle]
+pub extern "C" fn door_reply(request: &[u8], reply: &mut [u8]) -> usize
+    ensures { λ n. ⌜ Answered (now (request .entry)) (now (reply .entry)) n (now (reply .exit)) ⌝ }
+{
+    if reply.len() < ROOM {
+        return 0;
+    }
+    let mut points = [0i32; MOST_POINTS];
+    let answer = judge_record(request, &mut points);
+    let count = answer.count;
+    write_reply(answer, &points[..count], reply)
+}

@@ -1,0 +1,65 @@
+/* The door of the lean curve composer, for the drive's firmware.
+ *
+ * One function on bytes. Every number of two bytes is little-endian; "signed" is two's complement.
+ *
+ * A request, LEAN_REQUEST:
+ *
+ *   byte 0, 1   length of the whole record
+ *   byte 2, 3   kind, 0x0001
+ *   byte 4      form: 1 curve, 2 tensor surface, 3 triangular surface
+ *   byte 5      first degree: m, l or n
+ *   byte 6      second degree: 0, m or 0
+ *   byte 7      N, the path's degree
+ *   byte 8..    control values in 0.01 mm, signed, -4096 to 4096: m+1, (l+1)(m+1) or (n+1)(n+2)/2 of them;
+ *               then path numbers in 1/1024, signed, 0 to 1024: 1, 2 or 3 times N+1 of them
+ *
+ * A reply, LEAN_REPLY:
+ *
+ *   byte 0, 1   length of the whole record, 8 + 2 * count
+ *   byte 2, 3   kind, 0x8001
+ *   byte 4      number: 0 accepted, else a LEAN_ refusal
+ *   byte 5      place: the least bad index (VALUE, PARAMETER), the least bad point (BALANCE), else 0
+ *   byte 6      count: L + 1 points, 0 for a refusal
+ *   byte 7      0
+ *   byte 8..    the rounded control points in 0.01 mm, signed, count of them
+ */
+#ifndef LEAN_DOOR_H
+#define LEAN_DOOR_H
+
+#include <stddef.h>
+#include <stdint.h>
+
+#ifdef __cplusplus
+extern "C" {
+#endif
+
+enum {
+    LEAN_REQUEST = 0x0001,
+    LEAN_REPLY = 0x8001,
+    LEAN_HEAD = 8,           /* bytes before a request's body and before a reply's points */
+    LEAN_REPLY_ROOM = 34,    /* a reply needs this much room, whatever it says */
+    LEAN_MOST_POINTS = 13
+};
+
+/* The number in byte 4 of a reply, in the order of judgement. */
+enum {
+    LEAN_ACCEPTED = 0,
+    LEAN_FRAME = 9,     /* fewer than 8 bytes, a length that is not the record's, another kind; or, after DEGREE, a body
+                           that is not exactly as long as the degrees say */
+    LEAN_KIND = 1,      /* form is not 1, 2 or 3 */
+    LEAN_DEGREE = 2,    /* r above 4, N above 3, or a second degree in forms 1 and 3 */
+    LEAN_VALUE = 6,     /* a control value beyond its bounds */
+    LEAN_PARAMETER = 7, /* a path number beyond its bounds */
+    LEAN_BALANCE = 8    /* form 3: x+y+z of a point is not 1024 */
+};
+
+/* Judges and composes one request. Writes the reply to the front of reply and returns its byte count; the bytes beyond it
+ * stay. Under LEAN_REPLY_ROOM bytes of room nothing is written and 0 is returned. The two ranges must not overlap, and
+ * neither pointer may be null, also where its length is 0. Any bytes are a legal request. It always returns. */
+size_t door_reply(const uint8_t *request, size_t request_length, uint8_t *reply, size_t reply_length);
+
+#ifdef __cplusplus
+}
+#endif
+
+#endif

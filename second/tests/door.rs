@@ -1,0 +1,324 @@
+//! The door: the rides to reckon by hand as bytes, each refusal on both
+//! sides of its condition, the order, and the room.
+
+use second::door::door;
+
+/// A request record; its length is true.
+fn record(four: [u8; 4], surface: &[i16], path: &[i16]) -> Vec<u8> {
+    let mut bytes = vec![0, 0, 0x01, 0x00];
+    bytes.extend(four);
+    for number in surface.iter().chain(path) {
+        bytes.extend(number.to_le_bytes());
+    }
+    true_length(bytes)
+}
+
+/// The same bytes with a true length.
+fn true_length(mut bytes: Vec<u8>) -> Vec<u8> {
+    let length = (bytes.len() as u16).to_le_bytes();
+    bytes[..2].copy_from_slice(&length);
+    bytes
+}
+
+/// What the door tells; the room beyond the reply must stay.
+fn told(request: &[u8]) -> Vec<u8> {
+    let mut least = [0xa5; 34];
+    let mut long = [0x5a; 60];
+    let count = door(request, &mut least);
+    assert_eq!(door(request, &mut long), count);
+    assert_eq!(least[..count], long[..count]);
+    assert!(least[count..].iter().all(|&byte| byte == 0xa5));
+    assert!(long[count..].iter().all(|&byte| byte == 0x5a));
+    long[..count].to_vec()
+}
+
+/// A refused reply.
+fn refused(number: u8, place: u8) -> Vec<u8> {
+    vec![8, 0, 0x01, 0x80, number, place, 0, 0]
+}
+
+/// The reply that carries these points.
+fn accepted(points: &[i16]) -> Vec<u8> {
+    let count = points.len() as u8;
+    let mut bytes = vec![8 + 2 * count, 0, 0x01, 0x80, 0, 0, count, 0];
+    bytes.extend(points.iter().flat_map(|point| point.to_le_bytes()));
+    bytes
+}
+
+#[test]
+fn the_rides_reckoned_by_hand() {
+    type Ride<'a> = ([u8; 4], &'a [i16], &'a [i16], &'a [i16]);
+    let rides: [Ride; 12] = [
+        ([1, 1, 0, 1], &[0, 100], &[0, 1024], &[0, 100]),
+        ([1, 2, 0, 1], &[2, 3, -2], &[0, 1024], &[2, 3, -2]),
+        ([1, 2, 0, 1], &[2, 3, -2], &[0, 512], &[2, 3, 2]),
+        ([1, 2, 0, 1], &[-2, -3, 2], &[0, 512], &[-2, -2, -1]),
+        ([1, 1, 0, 2], &[0, 100], &[0, 1024, 0], &[0, 100, 0]),
+        (
+            [1, 2, 0, 2],
+            &[0, 0, 600],
+            &[0, 512, 1024],
+            &[0, 0, 100, 300, 600],
+        ),
+        (
+            [2, 1, 1, 1],
+            &[0, 0, 0, 400],
+            &[0, 0, 1024, 1024],
+            &[0, 0, 400],
+        ),
+        (
+            [2, 1, 1, 1],
+            &[0, 0, 0, 400],
+            &[0, 1024, 1024, 0],
+            &[0, 200, 0],
+        ),
+        ([3, 1, 0, 0], &[10, 20, 30], &[512, 256, 256], &[23]),
+        ([1, 0, 0, 3], &[7], &[0; 4], &[7]),
+        ([1, 4, 0, 0], &[0, 0, 0, 0, 4096], &[1024], &[4096]),
+        ([1, 4, 0, 3], &[4096; 5], &[0, 0, 1024, 1024], &[4096; 13]),
+    ];
+    for (four, surface, path, points) in rides {
+        assert_eq!(told(&record(four, surface, path)), accepted(points));
+    }
+}
+
+/// P2 and its reply, byte by byte.
+#[test]
+fn the_bytes_of_a_ride() {
+    let request = [
+        0x12, 0x00, 0x01, 0x00, 1, 2, 0, 1, 2, 0, 3, 0, 0xfe, 0xff, 0, 0, 0, 4,
+    ];
+    let reply = [0x0e, 0x00, 0x01, 0x80, 0, 0, 3, 0, 2, 0, 3, 0, 0xfe, 0xff];
+    assert_eq!(told(&request), reply);
+}
+
+#[test]
+fn room() {
+    let good = record([1, 4, 0, 3], &[4096; 5], &[0, 0, 1024, 1024]);
+    let small = record([1, 0, 0, 0], &[7], &[0]);
+    let bad = record([4, 0, 0, 0], &[], &[]);
+    for request in [&good[..], &small, &bad, &[], &good[..9]] {
+        let full = told(request);
+        for count in 0..=60 {
+            let mut reply: Vec<u8> = (0..count).map(|at| 0xc0 ^ at).collect();
+            let before = reply.clone();
+            let told = door(request, &mut reply);
+            if count < 34 {
+                assert_eq!(told, 0);
+                assert_eq!(reply, before);
+            } else {
+                assert_eq!(told, full.len());
+                assert_eq!(reply[..told], full);
+                assert_eq!(reply[told..], before[told..]);
+            }
+        }
+    }
+}
+
+#[test]
+fn frame_by_fewer_than_8_bytes() {
+    let good = record([1, 0, 0, 0], &[7], &[0]);
+    for count in 0..8 {
+        assert_eq!(told(&good[..count]), refused(9, 0));
+        if count >= 2 {
+            assert_eq!(told(&true_length(good[..count].to_vec())), refused(9, 0));
+        }
+    }
+    // With 8 bytes there is a head: form 0 is seen.
+    assert_eq!(told(&[8, 0, 1, 0, 0, 0, 0, 0]), refused(1, 0));
+    assert_eq!(told(&[7, 0, 1, 0, 0, 0, 0]), refused(9, 0));
+    // And an empty body is too short for every form.
+    assert_eq!(told(&[8, 0, 1, 0, 1, 0, 0, 0]), refused(9, 0));
+}
+
+#[test]
+fn frame_by_length() {
+    let good = record([1, 1, 0, 1], &[0, 100], &[0, 1024]);
+    assert_eq!(told(&good), accepted(&[0, 100]));
+    for length in 0..=u16::MAX {
+        let mut bytes = good.clone();
+        bytes[..2].copy_from_slice(&length.to_le_bytes());
+        if usize::from(length) != good.len() {
+            assert_eq!(told(&bytes), refused(9, 0));
+        }
+    }
+    // The record itself is good, the slice is longer or shorter.
+    let mut longer = good.clone();
+    for _ in 0..300 {
+        longer.push(0);
+        assert_eq!(told(&longer), refused(9, 0));
+    }
+    assert_eq!(told(&good[..good.len() - 1]), refused(9, 0));
+    // A length that is right but for 2^16.
+    let mut longer = good.clone();
+    longer.resize(good.len() + (1 << 16), 0);
+    assert_eq!(told(&longer), refused(9, 0));
+}
+
+#[test]
+fn frame_by_kind() {
+    let good = record([1, 1, 0, 1], &[0, 100], &[0, 1024]);
+    for kind in 0..=u16::MAX {
+        let mut bytes = good.clone();
+        bytes[2..4].copy_from_slice(&kind.to_le_bytes());
+        if kind == 1 {
+            assert_eq!(told(&bytes), accepted(&[0, 100]));
+        } else {
+            assert_eq!(told(&bytes), refused(9, 0));
+        }
+    }
+}
+
+#[test]
+fn kind() {
+    for form in 0..=255 {
+        let number = if (1..=3).contains(&form) { 9 } else { 1 };
+        assert_eq!(told(&record([form, 0, 0, 0], &[], &[])), refused(number, 0));
+    }
+}
+
+/// All degrees of all forms: DEGREE exactly when they are beyond, and an
+/// accepted count otherwise.
+#[test]
+fn degree() {
+    let bytes = [0, 1, 2, 3, 4, 5, 6, 127, 128, 252, 253, 254, 255];
+    for form in 1..=3 {
+        for first in bytes {
+            for second in bytes {
+                for n in bytes {
+                    let [l, m, q] = [first, second, n].map(usize::from);
+                    let legal = l + m <= 4 && q <= 3 && (form == 2 || m == 0);
+                    if !legal {
+                        for body in [0, 1, 2, 5] {
+                            let request = record([form, first, second, n], &[0; 5][..body], &[]);
+                            assert_eq!(told(&request), refused(2, 0));
+                        }
+                        continue;
+                    }
+                    let (control, path): (usize, Vec<i16>) = match form {
+                        1 => (l + 1, vec![512; q + 1]),
+                        2 => ((l + 1) * (m + 1), vec![512; 2 * (q + 1)]),
+                        _ => ((l + 1) * (l + 2) / 2, [1024, 0, 0].repeat(q + 1)),
+                    };
+                    let request = record([form, first, second, n], &vec![-9; control], &path);
+                    assert_eq!(told(&request), accepted(&vec![-9; (l + m) * q + 1]));
+                    // Every other length of the body is FRAME.
+                    for count in 8..=request.len() + 40 {
+                        let mut other = request.clone();
+                        other.resize(count, 0);
+                        if count != request.len() {
+                            assert_eq!(told(&true_length(other)), refused(9, 0));
+                        }
+                    }
+                }
+            }
+        }
+    }
+}
+
+#[test]
+fn value() {
+    for at in 0..6 {
+        for value in [-32768, -4097, -4096, 0, 4096, 4097, 32767] {
+            let mut surface = [5; 6];
+            surface[at] = value;
+            let reply = told(&record([3, 2, 0, 0], &surface, &[1024, 0, 0]));
+            if (-4096..=4096).contains(&value) {
+                assert_eq!(reply[..8], [10, 0, 0x01, 0x80, 0, 0, 1, 0]);
+            } else {
+                assert_eq!(reply, refused(6, at as u8));
+                surface[at..].fill(value);
+                let reply = told(&record([3, 2, 0, 0], &surface, &[1024, 0, 0]));
+                assert_eq!(reply, refused(6, at as u8));
+            }
+        }
+    }
+    // The largest place.
+    let mut surface = [0; 15];
+    surface[14] = 4097;
+    let reply = told(&record([3, 4, 0, 0], &surface, &[1024, 0, 0]));
+    assert_eq!(reply, refused(6, 14));
+}
+
+#[test]
+fn parameter() {
+    for at in 0..8 {
+        for number in [-32768, -1, 0, 1024, 1025, 32767] {
+            let mut path = [5; 8];
+            path[at] = number;
+            let reply = told(&record([2, 1, 0, 3], &[1, 2], &path));
+            if (0..=1024).contains(&number) {
+                assert_eq!(reply[4..8], [0, 0, 4, 0]);
+            } else {
+                assert_eq!(reply, refused(7, at as u8));
+            }
+        }
+    }
+}
+
+#[test]
+fn balance() {
+    for point in 0..4 {
+        for (change, number) in [(-1, 8), (0, 0), (1, 8)] {
+            let mut path = [341, 342, 341].repeat(4);
+            path[3 * point + 1] += change;
+            let reply = told(&record([3, 0, 0, 3], &[77], &path));
+            if number == 0 {
+                assert_eq!(reply, accepted(&[77]));
+            } else {
+                assert_eq!(reply, refused(8, point as u8));
+            }
+        }
+    }
+}
+
+/// What can be wrong, each a step of its own, in the order of the door.
+const STEPS: usize = 7;
+
+/// A record with these faults, and the reply to the first of them.
+fn with(faults: [bool; STEPS]) -> (Vec<u8>, Vec<u8>) {
+    let [length, other_kind, form, degree, body, value, parameter] = faults;
+    // A triangle of degree 2, or 5, the last point out of balance.
+    let first: u8 = if degree { 5 } else { 2 };
+    let control = usize::from((first + 1) * (first + 2) / 2);
+    let mut surface = vec![5; control];
+    let mut path = [1024, 0, 0, 0, 1024, 0, 0, 0, 1023];
+    if value {
+        surface[3] = -4097;
+    }
+    if parameter {
+        path[4] = 1025;
+    }
+    let number = if form { 4 } else { 3 };
+    let mut bytes = record([number, first, 0, 2], &surface, &path);
+    if body {
+        bytes.extend([0, 0]);
+        bytes = true_length(bytes);
+    }
+    if other_kind {
+        bytes[3] = 0x80;
+    }
+    if length {
+        bytes[0] ^= 1;
+    }
+    let replies = [
+        refused(9, 0),
+        refused(9, 0),
+        refused(1, 0),
+        refused(2, 0),
+        refused(9, 0),
+        refused(6, 3),
+        refused(7, 4),
+    ];
+    let first = faults.iter().position(|&fault| fault);
+    (bytes, first.map_or(refused(8, 2), |at| replies[at].clone()))
+}
+
+#[test]
+fn order_in_pairs_and_beyond() {
+    for set in 0_u32..1 << STEPS {
+        let faults = std::array::from_fn(|at| set >> at & 1 == 1);
+        let (bytes, reply) = with(faults);
+        assert_eq!(told(&bytes), reply, "{faults:?}");
+    }
+}
