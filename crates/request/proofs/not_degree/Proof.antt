@@ -15,7 +15,7 @@ returns c = rw (lt-ltb 4 (degree (c .before .args .head)) (omega (arith, first-l
 
 returns-2 : tie.Need-returns-2
 unfolding notDegree
-returns-2 c = simp (lt-ltb _ _ (c .if2 .taken), or-true)
+returns-2 c = simp (lt-ltb 3 (c .before .before .before .args .head .N) (omega arith), or-true)
 
 returns-3 : tie.Need-returns-3
 returns-3 c = small-tensor _ (c .if3 .taken) (omega arith) (omega arith)
