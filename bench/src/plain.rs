@@ -89,9 +89,9 @@ pub fn compose(
     }
 }
 
-/// The nearest whole number, a half going up. Twice the largest numerator and a divisor fit 64 bits.
+/// The nearest whole number, a half going away from zero. Twice the largest numerator and a divisor fit 64 bits.
 fn nearest(numerator: i64, divisor: i64) -> i64 {
-    (2 * numerator + divisor).div_euclid(2 * divisor)
+    (2 * numerator + divisor * numerator.signum()) / (2 * divisor)
 }
 
 /// An accepted request.

@@ -174,6 +174,17 @@ impl Asked {
         line
     }
 
+    /// The mirrored request: all control values negated, all else the same.
+    /// The least number has no mirror in 32 bits and becomes the greatest;
+    /// both are beyond the bounds.
+    pub fn mirrored(&self) -> Self {
+        let surface = self.surface.iter().map(|value| value.saturating_neg());
+        Asked {
+            surface: surface.collect(),
+            ..self.clone()
+        }
+    }
+
     /// Asks for the composed curve. With rooms named, the arrays have exactly
     /// that size; without, they have room for the longest answer, and only
     /// the places that the answer counts are kept.

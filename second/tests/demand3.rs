@@ -71,7 +71,8 @@ fn at_every_sixteenth() {
 }
 
 /// Numerators are at most binomial(L, R)·2^(12+10r) in size, and each point
-/// is the one whole number p with p − 1/2 ≤ exact < p + 1/2.
+/// is the one whole number p within 1/2 of the exact point that is beyond it,
+/// seen from zero, when it is just 1/2 away.
 #[test]
 fn numerators_and_points_keep_their_bounds() {
     for (ride, reply) in rides(3, 6000) {
@@ -80,8 +81,9 @@ fn numerators_and_points_keep_their_bounds() {
             let numerator = i128::from(numerator);
             let point = i128::from(point);
             assert!(numerator.abs() <= 4096 * divisor);
-            assert!((2 * point - 1) * divisor <= 2 * numerator);
-            assert!(2 * numerator < (2 * point + 1) * divisor);
+            let off = (2 * point * divisor - 2 * numerator).abs();
+            let beyond = point.abs() * divisor > numerator.abs();
+            assert!(off < divisor || (off == divisor && beyond));
         }
     }
 }

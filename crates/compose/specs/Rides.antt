@@ -1,5 +1,6 @@
--- "Rides to reckon by hand": P1 to P12 of document 01, one table and one statement over the definitions. The two arrays
--- are lent with one place more than is needed, so that the row says too that the last place stays. Assumes nothing.
+-- "Rides to reckon by hand": P1 to P12 of document 01, with the points of P4 as in document 02, ticket 2; one table and one
+-- statement over the definitions. The two arrays are lent with one place more than is needed, so that the row says too that
+-- the last place stays. Assumes nothing.
 use mathlib.Core.Path.{_≡_, refl}
 use mathlib.Core.List.{List, [], _∷_, _++_, map}
 use Prim.Native.Nat.{ℕ, _+_}
@@ -7,7 +8,7 @@ use lib.IntN.{ℤ, pos, negℤ}
 use lib.ListN.{length, replicate}
 use Rattle.whole.specs.Sum.{sumOver, sumTo}
 use Rattle.whole.specs.Choose.{choose}
-use Rattle.whole.specs.Round.{nearest, floorZ}
+use Rattle.whole.specs.Round.{halfUp, onSideOf, nearest}
 use Rattle.units.specs.Bounds.{beyondTravel, beyondPath}
 use Rattle.request.specs.declared.Answer.{Answer}
 use Rattle.request.specs.Head.{byForm, degree, longest, surfaceCount, pathCount, numbers}
@@ -60,7 +61,7 @@ rides =
     -- P4
     ∷ ride (curve 2 1 (below 2 ∷ below 3 ∷ pos 2 ∷ []) (whole (0 ∷ 512 ∷ [])))
     (below 2097152 ∷ below 5242880 ∷ below 1572864 ∷ [])
-    (below 2 ∷ below 2 ∷ below 1 ∷ [])
+    (below 2 ∷ below 3 ∷ below 2 ∷ [])
     -- P5
     ∷ ride (curve 1 2 (whole (0 ∷ 100 ∷ [])) (whole (0 ∷ 1024 ∷ 0 ∷ [])))
     (whole (0 ∷ 204800 ∷ 0 ∷ []))
@@ -111,5 +112,5 @@ unfoldable pub stated : Ride → Answer × List ℤ × List ℤ
 stated r = (record { number = 0; place = 0; count = length (r .points) }, r .numerators ++ (mark ∷ []), r .points ++ (mark ∷ []))
 
 pub as-stated : map worked rides ≡ map stated rides
-unfolding rides ride whole below curve tensor triangle mark worked stated exactAfter pointsAfter afterwards listBelow answer answerNumbers refused accepted least notKind notDegree notSurface notPath notRoom notValue notParameter notBalance valuePlace parameterPlace balancePlace beyondTravel beyondPath uneven isNumber byForm degree longest surfaceCount pathCount numbers rowStart placeOf netOf numberAt pathNumber step blossom overChoices total weight arguments numerator denominator point nearest floorZ sumTo sumOver choose
+unfolding rides ride whole below curve tensor triangle mark worked stated exactAfter pointsAfter afterwards listBelow answer answerNumbers refused accepted least notKind notDegree notSurface notPath notRoom notValue notParameter notBalance valuePlace parameterPlace balancePlace beyondTravel beyondPath uneven isNumber byForm degree longest surfaceCount pathCount numbers rowStart placeOf netOf numberAt pathNumber step blossom overChoices total weight arguments numerator denominator point nearest onSideOf halfUp sumTo sumOver choose
 as-stated = refl

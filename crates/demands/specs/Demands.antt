@@ -1,12 +1,12 @@
--- The three demands on the lean curve, each of every result that the composer's contract allows, and determinacy. What the
--- contract allows is in Rattle.compose.specs.Contract, document 01's words are in the definitions that are cited here.
--- Assumes nothing.
+-- The three demands on the lean curve, each of every result that the composer's contract allows, determinacy, and that port
+-- and starboard mirror. What the contract allows is in Rattle.compose.specs.Contract, the documents' words are in the
+-- definitions that are cited here. Assumes nothing.
 use mathlib.Core.Path.{_≡_, refl, sym, ap, _∙_}
 use mathlib.Core.Bool.{cond}
 use mathlib.Core.List.{List}
 use Prim.Native.Nat.{ℕ, _+_, _*_, _^_, _≤_, _<_}
 use native.Mathlib.Omega.{arith}
-use lib.IntN.{ℤ, pos, natAbs, _-ℤ_, _*ℤ_}
+use lib.IntN.{ℤ, pos, negℤ, natAbs, _-ℤ_, _*ℤ_}
 use lib.Dec.{eqb}
 use lib.ListN.{length, getD}
 use Rattle.whole.specs.Round.{nearest}
@@ -20,6 +20,8 @@ use Rattle.request.specs.Order.{tests, first, placeFor}
 use Rattle.request.proofs.Ordered.{ordered}
 use Rattle.net.specs.Composed.{numerator, denominator, point}
 use Rattle.net.specs.Reading.{drawn, surfaceRead}
+use Rattle.net.specs.Mirror.{mirrored}
+use Rattle.net.proofs.Mirror.{answer-mirrored, numerator-mirrored, point-mirrored}
 use Rattle.compose.specs.Afterwards.{exactAfter, pointsAfter, afterwards}
 use Rattle.compose.specs.Contract.{Composed}
 use Rattle.compose.proofs.Acceptance.{accepts, refused-none}
@@ -72,6 +74,14 @@ pub record Demand3 (rq : Request) (exact points : List ℤ) (r : Result) : Type 
       → natAbs (pos 2 *ℤ (pos (1024 ^ degree (rq .head)) *ℤ drawn (longest (rq .head)) (r .points) k q -ℤ surfaceRead rq k q))
       ≤ 1024 ^ degree (rq .head) * q ^ longest (rq .head)
 
+-- Port and starboard (02, ticket 2). "All control values negated, all points negated": of a result r for a request and a
+-- result s for the mirrored request, the answers are the same, and where they are acceptances, every numerator and every
+-- point at R = 0 to L of the one is that of the other negated.
+pub record Mirror (rq : Request) (r s : Result) : Type 0 where
+  pub answer : s .answer ≡ r .answer
+  pub numerators : r .answer .number ≡ 0 → (R : ℕ) → R ≤ longest (rq .head) → getD (s .exact) R (pos 0) ≡ negℤ (getD (r .exact) R (pos 0))
+  pub rounded : r .answer .number ≡ 0 → (R : ℕ) → R ≤ longest (rq .head) → getD (s .points) R (pos 0) ≡ negℤ (getD (r .points) R (pos 0))
+
 module _ (rq : Request) (exact points : List ℤ) (r : Result) (allowed : Allowed rq exact points r) where
   abbrev count : ℕ
   count = answer rq (length exact) (length points) .count
@@ -117,3 +127,16 @@ module _ (rq : Request) (exact points : List ℤ) (r : Result) (allowed : Allowe
   demand3 = record {
     within-half = λ e k q some m. rw (allowed .points-is) (at-every-moment rq exact points (ap (λ (a : Answer). a .number) (sym (allowed .answered)) ∙ e) k q m);
   }
+
+pub mirror : (rq : Request) (exact points : List ℤ) (r s : Result) → Allowed rq exact points r → Allowed (mirrored rq) exact points s → Mirror rq r s
+unfolding mirrored point denominator
+mirror rq exact points r s here there =
+    let same : s .answer ≡ r .answer = there .answered ∙ answer-mirrored rq (length exact) (length points) ∙ sym (here .answered) in
+    let number : r .answer .number ≡ 0 → s .answer .number ≡ 0 = λ e. ap (λ (a : Answer). a .number) same ∙ e in
+    let one = demand2 rq exact points r here in
+    let other = demand2 (mirrored rq) exact points s there in
+    record {
+      answer = same;
+      numerators = λ e R m. other .numerators (number e) R m ∙ numerator-mirrored rq R ∙ ap negℤ (sym (one .numerators e R m));
+      rounded = λ e R m. other .rounded (number e) R m ∙ point-mirrored rq R ∙ ap negℤ (sym (one .rounded e R m));
+    }

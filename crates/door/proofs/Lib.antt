@@ -9,3 +9,4 @@ pub mod Sending
 pub mod Room
 pub mod Promises
 pub mod Asked
+pub mod Mirrored

@@ -5,7 +5,7 @@ use mathlib.Core.List.{List, [], _∷_, map}
 use Prim.Native.Nat.{ℕ}
 use Rattle.whole.specs.Sum.{sumOver, sumTo}
 use Rattle.whole.specs.Choose.{choose}
-use Rattle.whole.specs.Round.{nearest, floorZ}
+use Rattle.whole.specs.Round.{nearest, onSideOf, halfUp}
 use Rattle.units.specs.Bounds.{beyondTravel, beyondPath}
 use Rattle.request.specs.Head.{byForm, degree, longest, surfaceCount, pathCount, numbers}
 use Rattle.request.specs.Refusal.{answer, answerNumbers, refused, accepted, least, notKind, notDegree, notSurface, notPath, notRoom, notValue, notParameter, notBalance, valuePlace, parameterPlace, balancePlace, uneven, isNumber}
@@ -64,5 +64,5 @@ exchanges =
     ∷ []
 
 pub as-stated : map (λ (e : Exchange). replyOf (e .request)) exchanges ≡ map (λ (e : Exchange). e .reply) exchanges
-unfolding refusalBytes exchanges wordBytes wordAt unsigned signed numberBytes numberAt lengthField kindField recordStart recordOf headIn pathStart bodyEnd requestIn answerBytes replyRecord notFrame notBody tests inOrder judged pointsOf replyOf listBelow answer answerNumbers refused accepted least notKind notDegree notSurface notPath notRoom notValue notParameter notBalance valuePlace parameterPlace balancePlace beyondTravel beyondPath uneven isNumber byForm degree longest surfaceCount pathCount numbers rowStart placeOf netOf pathNumberAt pathNumber step blossom overChoices total weight arguments numerator denominator point nearest floorZ sumTo sumOver choose
+unfolding refusalBytes exchanges wordBytes wordAt unsigned signed numberBytes numberAt lengthField kindField recordStart recordOf headIn pathStart bodyEnd requestIn answerBytes replyRecord notFrame notBody tests inOrder judged pointsOf replyOf listBelow answer answerNumbers refused accepted least notKind notDegree notSurface notPath notRoom notValue notParameter notBalance valuePlace parameterPlace balancePlace beyondTravel beyondPath uneven isNumber byForm degree longest surfaceCount pathCount numbers rowStart placeOf netOf pathNumberAt pathNumber step blossom overChoices total weight arguments numerator denominator point nearest onSideOf halfUp sumTo sumOver choose
 as-stated = refl

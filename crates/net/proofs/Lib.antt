@@ -17,3 +17,4 @@ pub mod PathPlace
 pub mod Rounded
 pub mod Moment
 pub mod Readings
+pub mod Mirror

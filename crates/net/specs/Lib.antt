@@ -4,6 +4,7 @@ pub mod Net
 pub mod Blossom
 pub mod Composed
 pub mod Reading
+pub mod Mirror
 pub mod Layout
 pub mod Lowered
 pub mod Gathered

@@ -1,19 +1,20 @@
 -- A signed operation reads its operands from their bits and writes its result as bits. Where the operands and the result
--- fit, nothing is lost: laws for every operation f of two numbers, and for the way from a number to its size and back.
+-- fit, nothing is lost: laws for every operation f of two numbers, for the way from a number to its size and back, and for division.
 -- Assumes nothing.
 use mathlib.Core.Path.{_≡_, refl, sym, _∙_, ap, ap₂}
 use mathlib.Core.Bool.{true, false, not, true≢false}
-use Prim.Native.Nat.{ℕ, zero, suc, _+_, _-_, _^_, _≤_, _<_}
-use native.Mathlib.Nat.{zero-add}
+use Prim.Native.Nat.{ℕ, zero, suc, _+_, _-_, _/_, _%_, _^_, _≤_, _<_}
+use native.Mathlib.Nat.{zero-add, div-le-self, mod-le}
 use native.Mathlib.Numerals.{add-one}
 use native.Mathlib.Omega.{arith}
 use lib.Dec.{T}
-use lib.IntN.{ℤ, pos, negsuc, negℤ, natAbs, _-ℤ_, +ℤ-comm, -ℤ-one}
-use lib.Signed.{mag, nonNeg, ltZ}
+use lib.IntN.{ℤ, pos, negsuc, negℤ, natAbs, _+ℤ_, _-ℤ_, +ℤ-comm, -ℤ-one, negℤ-+ℤ}
+use lib.Signed.{mag, nonNeg, ltZ, quotZ, remZ}
 use borrow.Author.Tests.{le-ltb}
 use mir.Syntax.{w64}
 use mir.Val.{Fits, SFits, toZ, ofZ}
 use mir.Facts.{toZ-ofZ, toZ-pos}
+use Rattle.whole.specs.Round.{onSideOf}
 
 fits-size : (z : ℤ) → natAbs z < 2 ^ 63 → SFits w64 z
 fits-size (pos n) h = record { sfits = h }
@@ -96,3 +97,55 @@ module _ (x : ℕ) (some : x ≡ 0 → ⊥) (h : x ≤ 2 ^ 63) where
       minus : (x : ℕ) → (x ≡ 0 → ⊥) → negsuc (x - 1) ≡ negℤ (pos x)
       minus zero f = absurd (f refl)
       minus (suc x) f = ap negsuc (omega arith)
+
+-- ---- no further from zero than n, on its side: what is written as bits is read again
+pub record Written (z r : ℤ) : Type 0 where
+  pub fits : SFits w64 z
+  pub is : again z ≡ r
+
+side-fits : (n : ℤ) (x : ℕ) → mag n < 2 ^ 63 → x ≤ natAbs n → mag (onSideOf n x) < 2 ^ 63
+unfolding onSideOf
+side-fits (pos a) x h m = omega arith
+side-fits (negsuc a) zero h m = omega arith
+side-fits (negsuc a) (suc x) h m = omega arith
+
+beside : (n : ℤ) (x : ℕ) {z : ℤ} → mag n < 2 ^ 63 → x ≤ natAbs n → z ≡ onSideOf n x → Written z (onSideOf n x)
+beside n x h m e =
+    let f = side-fits n x h m in
+    record { fits = rw e (record { sfits = f }); is = ap again e ∙ again-is (onSideOf n x) f }
+
+-- what division by d gives
+module _ (n : ℤ) (d : ℕ) (h : mag n < 2 ^ 63) (few : d < 2 ^ 63) where
+  pub quotient-written : Written (quotZ (again n) (toZ w64 d)) (onSideOf n (natAbs n / d))
+  unfolding onSideOf
+  quotient-written = beside n _ h (div-le-self (natAbs n) d) (ap₂ quotZ (again-is n h) (toZ-pos w64 few) ∙ cut n)
+    where
+      cut : (n : ℤ) → quotZ n (pos d) ≡ onSideOf n (natAbs n / d)
+      cut (pos a) = refl
+      cut (negsuc a) = refl
+
+  pub remainder-written : Written (remZ (again n) (toZ w64 d)) (onSideOf n (natAbs n % d))
+  unfolding onSideOf
+  remainder-written = beside n _ h (mod-le (natAbs n) d) (ap₂ remZ (again-is n h) (toZ-pos w64 few) ∙ left n)
+    where
+      left : (n : ℤ) → remZ n (pos d) ≡ onSideOf n (natAbs n % d)
+      left (pos a) = refl
+      left (negsuc a) = refl
+
+-- one further from zero than q, which is on n's side and not yet as far
+module _ (n q : ℤ) (h : mag n < 2 ^ 63) (k : mag q < 2 ^ 63) (e : q ≡ onSideOf n (natAbs q)) (m : natAbs q < natAbs n) where
+  pub down-written : ltZ (again n) (pos 0) ≡ true → Written (again q -ℤ pos 1) (onSideOf n (natAbs q + 1))
+  unfolding onSideOf
+  down-written t = beside n _ h (omega arith) (ap (λ x. x -ℤ pos 1) (again-is q k ∙ e) ∙ down n (natAbs q) (sym (sign-is n h) ∙ t))
+    where
+      down : (n : ℤ) (x : ℕ) → not (nonNeg n) ≡ true → onSideOf n x -ℤ pos 1 ≡ onSideOf n (x + 1)
+      down (pos a) x t = absurd (true≢false (sym t))
+      down (negsuc a) x t = sym (negℤ-+ℤ (pos x) (pos 1))
+
+  pub up-written : ltZ (again n) (pos 0) ≡ false → Written (again q +ℤ pos 1) (onSideOf n (natAbs q + 1))
+  unfolding onSideOf
+  up-written t = beside n _ h (omega arith) (ap (λ x. x +ℤ pos 1) (again-is q k ∙ e) ∙ up n (natAbs q) (sym (sign-is n h) ∙ t))
+    where
+      up : (n : ℤ) (x : ℕ) → not (nonNeg n) ≡ false → onSideOf n x +ℤ pos 1 ≡ onSideOf n (x + 1)
+      up (pos a) x t = refl
+      up (negsuc a) x t = absurd (true≢false t)

@@ -1,63 +1,51 @@
--- The nearest whole number by a quotient and a remainder, of a number that is not negative and of a negative one: what the
--- function computes is what the laws of rounding say, for either outcome of its test. Assumes nothing.
+-- The nearest whole number by a quotient and what it leaves: what the function computes is what the definition says, for
+-- either outcome of its test. Assumes nothing.
 use mathlib.Core.Path.{_≡_, refl, sym, _∙_, ap}
-use mathlib.Core.Bool.{true, false, not, true≢false}
-use Prim.Native.Nat.{ℕ, _+_, _*_, _-_, _/_, _%_, _≤_, _<_}
+use Prim.Native.Nat.{ℕ, _+_, _-_, _/_, _%_, _≤_, _<_}
 use native.Mathlib.Nat.{div-add-mod, mod-lt, mul-le-mul-right}
 use native.Mathlib.Omega.{arith}
-use lib.IntN.{ℤ, pos, negsuc, negℤ, natAbs, _+ℤ_, +ℤ-comm}
-use lib.Signed.{mag, nonNeg}
-use Rattle.whole.specs.Round.{nearest}
-use Rattle.whole.proofs.Ring.{_⊕_, _⊖_, sub-eq, *ℤ-negℤ}
-use Rattle.whole.proofs.Rounding.{nearest-only}
+use lib.IntN.{ℤ, pos, negsuc, natAbs}
+use Rattle.whole.specs.Round.{onSideOf, nearest, Divided}
+use Rattle.whole.proofs.Bound.{natAbs-neg}
+use Rattle.whole.proofs.Rounding.{half-up-only}
 
-plus-near : (x d y s : ℕ) → 0 < d → s < 2 * d → 2 * x + d ≡ 2 * d * y + s → pos y ≡ nearest (pos x) d
-plus-near x d y s h l e = nearest-only (pos x) (pos y) d h (record { left = s; small = l; parts = ap pos e })
+module _ (n : ℤ) (d : ℕ) (q : ℤ) (left : ℕ) (r : Divided n d q left) where
+  -- less than half is dropped
+  pub stays : left < d - left → q ≡ nearest n d
+  unfolding nearest
+  stays l = r .side ∙ ap (onSideOf n) (half-up-only (natAbs n) d (natAbs q) (omega arith))
 
-lowered : (x d y s : ℕ) → d + y ≡ s + x → negℤ (pos x) +ℤ pos d ≡ negℤ (pos y) +ℤ pos s
-unfolding _⊕_ _⊖_
-lowered x d y s e =
-    +ℤ-comm (negℤ (pos x)) (pos d) ∙ sub-eq (pos d) (pos x) (pos s) (pos y) (ap pos e) ∙ +ℤ-comm (pos s) (negℤ (pos y))
+  -- half or more takes one more
+  pub goes-further : d - left ≤ left → onSideOf n (natAbs q + 1) ≡ nearest n d
+  unfolding nearest
+  goes-further l = ap (onSideOf n) (half-up-only (natAbs n) d (natAbs q + 1) (omega arith))
 
-minus-near : (x d y s : ℕ) → 0 < d → s < 2 * d → d + 2 * d * y ≡ s + 2 * x → negℤ (pos y) ≡ nearest (negℤ (pos x)) d
-minus-near x d y s h l e =
-    nearest-only (negℤ (pos x)) (negℤ (pos y)) d h (record {
-      left = s;
-      small = l;
-      parts =
-          ap (λ z. z +ℤ pos d) (*ℤ-negℤ (pos 2) (pos x)) ∙ lowered (2 * x) d (2 * d * y) s e
-          ∙ ap (λ z. z +ℤ pos s) (sym (*ℤ-negℤ (pos (2 * d)) (pos y)));
-    })
+  -- and then there is room for it
+  pub room : d - left ≤ left → natAbs q < natAbs n
+  room l = omega (arith, mul-le-mul-right (natAbs q) (r .some))
 
-module _ (x d : ℕ) (h : 0 < d) where
-  pub step : d - x % d ≤ x % d → x / d + 1 ≤ x
-  step k = omega (arith, div-add-mod x d, mod-lt x h, mul-le-mul-right (x / d) h)
+side-size : (n : ℤ) (x : ℕ) → natAbs (onSideOf n x) ≡ x
+unfolding onSideOf
+side-size (pos a) x = refl
+side-size (negsuc a) x = natAbs-neg (pos x)
 
-  pub plus-up : d - x % d ≤ x % d → pos (x / d + 1) ≡ nearest (pos x) d
-  plus-up k =
-      plus-near x d (x / d + 1) (2 * (x % d) - d) h (omega (arith, mod-lt x h))
-      (omega (arith, div-add-mod x d, mod-lt x h))
+-- by division
+pub by-division : (n : ℤ) (d : ℕ) → 0 < d → Divided n d (onSideOf n (natAbs n / d)) (natAbs (onSideOf n (natAbs n % d)))
+by-division n d h =
+    let q = side-size n (natAbs n / d) in
+    let s = side-size n (natAbs n % d) in
+    record {
+      some = h;
+      side = ap (onSideOf n) (sym q);
+      parts = rw (q, s) (div-add-mod (natAbs n) d);
+      most = rw s (let l = mod-lt (natAbs n) h in omega arith);
+    }
 
-  pub plus-down : x % d < d - x % d → pos (x / d) ≡ nearest (pos x) d
-  plus-down k =
-      plus-near x d (x / d) (2 * (x % d) + d) h (omega (arith, mod-lt x h))
-      (omega (arith, div-add-mod x d, mod-lt x h))
-
-  pub minus-down : d - x % d < x % d → negℤ (pos (x / d + 1)) ≡ nearest (negℤ (pos x)) d
-  minus-down k =
-      minus-near x d (x / d + 1) (3 * d - 2 * (x % d)) h (omega (arith, mod-lt x h))
-      (omega (arith, div-add-mod x d, mod-lt x h))
-
-  pub minus-up : x % d ≤ d - x % d → negℤ (pos (x / d)) ≡ nearest (negℤ (pos x)) d
-  minus-up k =
-      minus-near x d (x / d) (d - 2 * (x % d)) h (omega (arith, mod-lt x h))
-      (omega (arith, div-add-mod x d, mod-lt x h))
-
--- ---- a number by its sign and its size
-pub of-plus : (z : ℤ) → not (nonNeg z) ≡ false → (pos (natAbs z) ≡ z) × (natAbs z ≡ mag z)
-of-plus (pos a) t = (refl, refl)
-of-plus (negsuc a) t = absurd (true≢false t)
-
-pub of-minus : (z : ℤ) → not (nonNeg z) ≡ true → negℤ (pos (natAbs z)) ≡ z
-of-minus (pos a) t = absurd (true≢false (sym t))
-of-minus (negsuc a) t = refl
+-- where d is at least the numerator's size, all of it may be left
+pub all-left : (n : ℤ) (d : ℕ) → 0 < d → natAbs n ≤ d → Divided n d (pos 0) (natAbs n)
+unfolding onSideOf
+all-left n d h m = record { some = h; side = none n; parts = omega arith; most = omega arith }
+  where
+    none : (n : ℤ) → pos 0 ≡ onSideOf n 0
+    none (pos a) = refl
+    none (negsuc a) = refl

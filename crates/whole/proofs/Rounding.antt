@@ -1,98 +1,146 @@
--- Rounding: the nearest whole number to n/d is off by at most half, and it is the only one with a half going up. What is
--- proved of rounding elsewhere goes by these laws and not by the definition, which the tie rule is part of.
--- Assumes nothing.
+-- Rounding: the nearest whole number to n/d is off by at most half, at exactly half it is the one further from zero, and no
+-- other number is both. What is proved of rounding elsewhere goes by these laws and not by the definition, which the tie
+-- rule is part of. Assumes nothing.
 use mathlib.Core.Path.{_≡_, refl, sym, _∙_, ap}
 use mathlib.Core.Bool.{Bool, true, false, cond}
-use Prim.Native.Nat.{ℕ, zero, suc, _+_, _*_, _-_, _/_, _%_, _≤_, _<_}
-use native.Mathlib.Nat.{mul-comm, mul-suc, div-add-mod, mod-lt, lt-of-mul-lt-mul-left}
+use mathlib.Core.List.{List, [], _∷_, map}
+use Prim.Native.Nat.{ℕ, zero, suc, _+_, _*_, _-_, _^_, _≤_, _<_}
+use native.Mathlib.Nat.{mul-suc, div-add-mod, mod-lt, div-eq-of-lt-le, lt-of-mul-lt-mul-left}
+use native.Mathlib.Decide.{decLt}
 use native.Mathlib.Omega.{arith}
-use lib.Arith.{digits-div}
 use lib.Dec.{ltb}
-use lib.IntN.{ℤ, pos, negsuc, negℤ, natAbs, _+ℤ_, _-ℤ_, _*ℤ_}
-use borrow.Author.Tests.{lt-ltb}
-use Rattle.whole.specs.Round.{floorZ, nearest}
-use Rattle.whole.proofs.Ring.{_⊕_, _⊖_, _⊗_, ⊕-comm, ⊗-assoc, pos-mul, mul-sub, sub-⊕, sub-eq}
-use Rattle.whole.proofs.Bound.{natAbs-add, natAbs-mul}
+use lib.IntN.{ℤ, pos, negsuc, negℤ, natAbs, _-ℤ_, _*ℤ_, negℤ-negℤ}
+use borrow.Author.Tests.{ltb-true, ltb-false}
+use Rattle.whole.specs.Round.{halfUp, onSideOf, nearest}
+use Rattle.whole.proofs.Ring.{_⊕_, _⊖_, _⊗_, ⊝_, ring, subs, mul-sub, sub-⊕, sub-eq}
+use Rattle.whole.proofs.Bound.{natAbs-add, natAbs-mul, natAbs-neg}
 
--- ---- the floor: z = m·p + s with s below m
-below : (x s : ℕ) → s < x → negℤ (pos x) +ℤ pos s ≡ negsuc (x - suc s)
-below zero s h = absurd (omega arith)
-below (suc x) s h = rw (lt-ltb s (suc x) h)
+-- ---- "exact at halves, zero and both ends of the range": a numerator, a denominator and the rounded point
+table : List (ℤ × ℕ × ℤ)
+table =
+    (pos 1, 2, pos 1)
+    ∷ (negsuc 0, 2, negsuc 0)
+    ∷ (pos 3, 2, pos 2)
+    ∷ (negsuc 2, 2, negsuc 1)
+    ∷ (pos 5, 2, pos 3)
+    ∷ (negsuc 4, 2, negsuc 2)
+    ∷ (negsuc 3, 3, negsuc 0)
+    ∷ (negsuc 4, 3, negsuc 1)
+    ∷ (pos 0, 2, pos 0)
+    ∷ (pos (2 ^ 63 - 1), 1, pos (2 ^ 63 - 1))
+    ∷ (negsuc (2 ^ 63 - 1), 1, negsuc (2 ^ 63 - 1))
+    ∷ (pos (2 ^ 63 - 1), 2 ^ 64 - 1, pos 0)
+    ∷ (negsuc (2 ^ 63 - 1), 2 ^ 64 - 1, negsuc 0)
+    ∷ []
 
-share : (q : ℕ) {m s : ℕ} → s < m → (m * q + s) / m ≡ q
-share q {m} h = rw (mul-comm m q) (digits-div q h)
+as-tabled : map (λ r. nearest (r .0) (r .1)) table ≡ map (λ r. r .2) table
+unfolding table nearest onSideOf halfUp
+as-tabled = refl
 
-floor-only : (z p : ℤ) (m s : ℕ) → s < m → z ≡ pos m *ℤ p +ℤ pos s → p ≡ floorZ z m
-unfolding floorZ
-floor-only z (pos q) m s h e = rw e (ap pos (sym (share q h)))
-floor-only z (negsuc q) m s h e =
-    let r : m * suc q - suc s ≡ m * q + (m - suc s) = omega (arith, mul-suc m q) in
-    rw (e, below (m * suc q) s (omega (arith, mul-suc m q)), r) (ap negsuc (sym (share q (omega arith))))
+-- ---- of a size: −1/2 ≤ x/d − y < 1/2
+pub record HalfUp (x d y : ℕ) : Type 0 where
+  pub above : 2 * (d * y) ≤ 2 * x + d
+  pub below : 2 * x < 2 * (d * y) + d
 
-rest : ℤ → ℕ → ℕ
-rest (pos a) m = a % m
-rest (negsuc a) m = m - suc (a % m)
+half-up-is : (x d : ℕ) → 0 < d → HalfUp x d (halfUp x d)
+unfolding halfUp
+half-up-is x zero h = absurd (omega arith)
+half-up-is x (suc e) h =
+    let m = 2 * suc e in
+    omega (arith, div-add-mod (2 * x + suc e) m, mod-lt (2 * x + suc e) {m = m} (omega arith))
 
-rest-below : (z : ℤ) (m : ℕ) → 0 < m → rest z m < m
-unfolding rest
-rest-below (pos a) m h = mod-lt a h
-rest-below (negsuc a) m h = omega arith
+pub half-up-only : (x d y : ℕ) → HalfUp x d y → y ≡ halfUp x d
+unfolding halfUp
+half-up-only x zero y h = absurd (omega arith)
+half-up-only x (suc e) y h = sym (div-eq-of-lt-le (2 * suc e) (omega arith) (omega arith))
 
-floor-is : (z : ℤ) (m : ℕ) → 0 < m → z ≡ pos m *ℤ floorZ z m +ℤ pos (rest z m)
-unfolding floorZ rest
-floor-is (pos a) m h = ap pos (sym (div-add-mod a m))
-floor-is (negsuc a) m h =
-    let b : m - suc (a % m) < m * suc (a / m) = omega (arith, mul-suc m (a / m), mod-lt a h) in
-    let e : m * suc (a / m) - suc (m - suc (a % m)) ≡ a = omega (arith, mul-suc m (a / m), div-add-mod a m, mod-lt a h) in
-    sym (below (m * suc (a / m)) (m - suc (a % m)) b ∙ ap negsuc e)
-
--- ---- the nearest, a half going up: 2n + d = 2d·p + s with s from 0 to 2d − 1, that is −d < 2(d·p − n) ≤ d
+-- ---- the nearest, a half going away from zero
 pub record Nearest (n : ℤ) (d : ℕ) (p : ℤ) : Type 0 where
-  pub left : ℕ
-  pub small : left < 2 * d
-  pub parts : pos 2 *ℤ n +ℤ pos d ≡ pos (2 * d) *ℤ p +ℤ pos left
+  pub error : natAbs (pos 2 *ℤ (pos d *ℤ p -ℤ n)) ≤ d
+  pub away : natAbs (pos 2 *ℤ (pos d *ℤ p -ℤ n)) ≡ d → natAbs n ≤ d * natAbs p
+
+-- negated, nothing changes its size
+opposite : (n p d : ℤ) → d ⊗ ⊝ p ⊖ ⊝ n ≡ ⊝ (d ⊗ p ⊖ n)
+opposite n p d = simp subs (sub-eq _ _ _ _ (simp ring))
+
+mirrored-error : (n p : ℤ) (d : ℕ) → natAbs (pos 2 *ℤ (pos d *ℤ negℤ p -ℤ negℤ n)) ≡ natAbs (pos 2 *ℤ (pos d *ℤ p -ℤ n))
+unfolding _⊖_ _⊗_ ⊝_
+mirrored-error n p d =
+    let z = pos d *ℤ p -ℤ n in
+    ap (λ y. natAbs (pos 2 *ℤ y)) (opposite n p (pos d))
+    ∙ natAbs-mul (pos 2) (negℤ z) ∙ ap (λ (x : ℕ). 2 * x) (natAbs-neg z) ∙ sym (natAbs-mul (pos 2) z)
+
+mirrored : (n p : ℤ) (d : ℕ) → Nearest n d p → Nearest (negℤ n) d (negℤ p)
+mirrored n p d r = record {
+  error = rw mirrored-error (r .error);
+  away = λ e. rw (natAbs-neg n, natAbs-neg p) (r .away (sym (mirrored-error n p d) ∙ e));
+}
+
+-- of two numbers that are not negative, and of one that is
+distance : (a b : ℕ) → natAbs (pos a -ℤ pos b) ≡ (a - b) + (b - a)
+distance a zero = omega arith
+distance a (suc b) = either (ltb a (suc b)) refl
+  where
+    either : (c : Bool) → ltb a (suc b) ≡ c → natAbs (cond c (negsuc (suc b - suc a)) (pos (a - suc b))) ≡ (a - suc b) + (suc b - a)
+    either true e = omega (arith, ltb-true a (suc b) e)
+    either false e = omega (arith, ltb-false a (suc b) e)
+
+error-is : (x d y : ℕ) → natAbs (pos 2 *ℤ (pos d *ℤ pos y -ℤ pos x)) ≡ 2 * ((d * y - x) + (x - d * y))
+error-is x d y = natAbs-mul (pos 2) (pos (d * y) -ℤ pos x) ∙ ap (λ (z : ℕ). 2 * z) (distance (d * y) x)
+
+across : (n p d : ℤ) → d ⊗ ⊝ p ⊖ n ≡ ⊝ (d ⊗ p ⊕ n)
+across n p d = simp subs (sub-eq _ _ _ _ (simp ring))
+
+across-error : (x d y : ℕ) → natAbs (pos 2 *ℤ (pos d *ℤ negsuc y -ℤ pos x)) ≡ 2 * (d * suc y + x)
+unfolding _⊕_ _⊖_ _⊗_ ⊝_
+across-error x d y =
+    ap (λ z. natAbs (pos 2 *ℤ z)) (across (pos x) (pos (suc y)) (pos d))
+    ∙ natAbs-mul (pos 2) (negℤ (pos (d * suc y + x))) ∙ ap (λ (z : ℕ). 2 * z) (natAbs-neg (pos (d * suc y + x)))
+
+-- for a numerator that is not negative; the other side of zero is its mirror
+size-is : (x d : ℕ) → 0 < d → Nearest (pos x) d (pos (halfUp x d))
+size-is x d h =
+    let r = half-up-is x d h in
+    let e = error-is x d (halfUp x d) in
+    record { error = omega arith; away = λ t. omega arith }
+
+size-only : (x d : ℕ) (p : ℤ) → 0 < d → Nearest (pos x) d p → p ≡ pos (halfUp x d)
+size-only x d (negsuc y) h r = absurd (omega (arith, across-error x d y, r .error, mul-suc d y))
+size-only x d (pos y) h r = ap pos (half-up-only x d y (record { above = omega (arith, e, r .error); below = strict (decLt (2 * x) (2 * (d * y) + d)) }))
+  where
+    e : natAbs (pos 2 *ℤ (pos d *ℤ pos y -ℤ pos x)) ≡ 2 * ((d * y - x) + (x - d * y))
+    e = error-is x d y
+
+    strict : Dec (2 * x < 2 * (d * y) + d) → 2 * x < 2 * (d * y) + d
+    strict (yes l) = l
+    strict (no m) = absurd (omega (arith, r .away (omega (arith, e, r .error))))
 
 pub nearest-is : (n : ℤ) (d : ℕ) → 0 < d → Nearest n d (nearest n d)
-unfolding nearest
-nearest-is n zero h = absurd (omega arith)
-nearest-is n (suc e) h =
-    let z = pos 2 *ℤ n +ℤ pos (suc e) in
-    record {
-      left = rest z (2 * suc e);
-      small = rest-below z (2 * suc e) (omega arith);
-      parts = floor-is z (2 * suc e) (omega arith);
-    }
+unfolding nearest onSideOf
+nearest-is (pos a) d h = size-is a d h
+nearest-is (negsuc a) d h = mirrored (pos (suc a)) (pos (halfUp (suc a) d)) d (size-is (suc a) d h)
 
 pub nearest-only : (n p : ℤ) (d : ℕ) → 0 < d → Nearest n d p → p ≡ nearest n d
-unfolding nearest
-nearest-only n p zero h r = absurd (omega arith)
-nearest-only n p (suc e) h r = floor-only (pos 2 *ℤ n +ℤ pos (suc e)) p (2 * suc e) (r .left) (r .small) (r .parts)
+unfolding nearest onSideOf
+nearest-only (pos a) p d h r = size-only a d p h r
+nearest-only (negsuc a) p d h r = sym (negℤ-negℤ p) ∙ ap negℤ (size-only (suc a) d (negℤ p) h (mirrored (negsuc a) p d r))
 
 -- there is no fraction with the denominator 0
 pub nearest-none : (n : ℤ) → nearest n 0 ≡ pos 0
-unfolding nearest
-nearest-none n = refl
+unfolding nearest onSideOf halfUp
+nearest-none (pos a) = refl
+nearest-none (negsuc a) = refl
 
--- ---- the error
-difference : (n p : ℤ) (d s : ℕ) → pos 2 ⊗ n ⊕ pos d ≡ pos (2 * d) ⊗ p ⊕ pos s → pos 2 ⊗ (pos d ⊗ p ⊖ n) ≡ pos d ⊖ pos s
-difference n p d s e =
-    let twice : pos 2 ⊗ (pos d ⊗ p) ≡ pos (2 * d) ⊗ p = rw (pos-mul 2 d, ⊗-assoc) in
-    rw mul-sub (sub-eq _ _ _ _ (ap (λ x. x ⊕ pos s) twice ∙ sym e ∙ ⊕-comm _ _))
-
-within : (d s : ℕ) → s < 2 * d → natAbs (pos d -ℤ pos s) ≤ d
-within d zero h = omega arith
-within d (suc s) h = either (ltb d (suc s))
-  where
-    either : (c : Bool) → natAbs (cond c (negsuc (suc s - suc d)) (pos (d - suc s))) ≤ d
-    either true = omega arith
-    either false = omega arith
+-- ---- "Port and starboard must mirror"
+pub nearest-neg : (n : ℤ) (d : ℕ) → nearest (negℤ n) d ≡ negℤ (nearest n d)
+nearest-neg n zero = nearest-none (negℤ n) ∙ ap negℤ (sym (nearest-none n))
+nearest-neg n (suc e) =
+    let h : 0 < suc e = omega arith in
+    sym (nearest-only (negℤ n) (negℤ (nearest n (suc e))) (suc e) h (mirrored n (nearest n (suc e)) (suc e) (nearest-is n (suc e) h)))
 
 -- twice the error is at most the denominator
 pub nearest-error : (n : ℤ) (d : ℕ) → 0 < d → natAbs (pos 2 *ℤ (pos d *ℤ nearest n d -ℤ n)) ≤ d
-unfolding _⊕_ _⊗_ _⊖_
-nearest-error n d h =
-    let r = nearest-is n d h in
-    rw (difference n (nearest n d) d (r .left) (r .parts)) (within d (r .left) (r .small))
+nearest-error n d h = nearest-is n d h .error
 
 -- ---- the size: a rounded point of a fraction within ±b is within ±b, by its error alone
 restore : (n p : ℤ) (d : ℕ) → pos 2 ⊗ (pos d ⊗ p) ≡ pos 2 ⊗ (pos d ⊗ p ⊖ n) ⊕ pos 2 ⊗ n
@@ -109,20 +157,3 @@ near-size n p d b h e k =
 
 pub nearest-size : (n : ℤ) (d b : ℕ) → 0 < d → natAbs n ≤ d * b → natAbs (nearest n d) ≤ b
 nearest-size n d b h k = near-size n (nearest n d) d b h (nearest-error n d h) k
-
--- ---- 1/2 is rounded to 1, −1/2 to 0, −3/2 to −1, and −5/3 to −2
-half : nearest (pos 1) 2 ≡ pos 1
-unfolding nearest floorZ
-half = refl
-
-minus-half : nearest (negsuc 0) 2 ≡ pos 0
-unfolding nearest floorZ
-minus-half = refl
-
-minus-three-halves : nearest (negsuc 2) 2 ≡ negsuc 0
-unfolding nearest floorZ
-minus-three-halves = refl
-
-minus-five-thirds : nearest (negsuc 4) 3 ≡ negsuc 1
-unfolding nearest floorZ
-minus-five-thirds = refl

@@ -1,11 +1,11 @@
-// Whole numbers that fit 64 bits: their sum and product. What they mean is in specs/, the laws are in proofs/.
-// Callers see plain whole numbers, since the bits of a number stay inside these functions. Assumes nothing.
+// Whole numbers that fit 64 bits: their sum, their product and rounding. What they mean is in specs/, the laws are in
+// proofs/. Callers see plain whole numbers, since the bits of a number stay inside these functions. Assumes nothing.
 ghost use mathlib.Core.Path.{_≡_};
-ghost use Prim.Native.Nat.{_+_, _*_, _^_, _≤_, _<_};
+ghost use Prim.Native.Nat.{_+_, _*_, _/_, _%_, _^_, _≤_, _<_};
 ghost use mathlib.Core.Bool.{not};
 ghost use lib.IntN.{pos, negℤ, natAbs, _+ℤ_, _*ℤ_};
 ghost use lib.Signed.{mag, nonNeg};
-ghost use Rattle.whole.specs.Round.{nearest};
+ghost use Rattle.whole.specs.Round.{onSideOf, nearest, Divided};
 
 // A whole number that fits 64 bits.
 pub struct Num(pub i64);
@@ -61,35 +61,52 @@ pub fn minus(x: u64) -> Num
 
 // ---- rounding
 
-// x/d for x that is not negative, a half going up. Nothing overflows: the remainder is compared with what it lacks to d.
-fn half_up(x: u64, d: u64) -> u64
-    requires { ⌜ 0 < d ⌝ }
-    ensures { λ r. ⌜ (pos r ≡ nearest (pos x) d) × (r ≤ x) ⌝ }
+// The greatest signed number of 64 bits.
+const LARGEST: u64 = 0x7fff_ffff_ffff_ffff;
+
+// n/d, cut off toward zero.
+fn quotient(n: Num, d: u64) -> Num
+    requires { ⌜ (0 < d) × (d < 2 ^ 63) ⌝ }
+    ensures { λ q. ⌜ q .0 ≡ onSideOf (n .0) (natAbs (n .0) / d) ⌝ }
 {
-    let m = x % d;
-    if d - m <= m { x / d + 1 } else { x / d }
+    Num(n.0 / d as i64)
 }
 
-// x/d where it stands for −x/d: a half going down is a half of the negative number going up.
-fn half_down(x: u64, d: u64) -> u64
-    requires { ⌜ 0 < d ⌝ }
-    ensures { λ r. ⌜ (negℤ (pos r) ≡ nearest (negℤ (pos x)) d) × (r ≤ x) ⌝ }
+// What is left of n, on its side of zero.
+fn remainder(n: Num, d: u64) -> Num
+    requires { ⌜ (0 < d) × (d < 2 ^ 63) ⌝ }
+    ensures { λ r. ⌜ r .0 ≡ onSideOf (n .0) (natAbs (n .0) % d) ⌝ }
 {
-    let m = x % d;
-    if d - m < m { x / d + 1 } else { x / d }
+    Num(n.0 % d as i64)
 }
 
-// The rounded point of n/d: the nearest whole number, a half going up, toward plus infinity. 0 where d is 0.
+// From q one further from zero, on n's side.
+fn further(q: Num, n: Num) -> Num
+    requires { ⌜ (q .0 ≡ onSideOf (n .0) (natAbs (q .0))) × (natAbs (q .0) < natAbs (n .0)) ⌝ }
+    ensures { λ r. ⌜ r .0 ≡ onSideOf (n .0) (natAbs (q .0) + 1) ⌝ }
+{
+    if n.0 < 0 { Num(q.0 - 1) } else { Num(q.0 + 1) }
+}
+
+// The rounded point of n/d by the quotient q and the size m of what it leaves: at least half of d takes one more. Nothing
+// overflows, since m is compared with what it lacks to d.
+fn settled(n: Num, d: u64, q: Num, m: u64) -> Num
+    requires { ⌜ Divided (n .0) d (q .0) m ⌝ }
+    ensures { λ r. ⌜ r .0 ≡ nearest (n .0) d ⌝ }
+{
+    if d - m <= m { further(q, n) } else { q }
+}
+
+// The rounded point of n/d: the nearest whole number, a half going away from zero. 0 where d is 0. A denominator that is no
+// signed number is at least as large as any numerator, so that all of the numerator is left.
 pub fn nearest(n: Num, d: u64) -> Num
     ensures { λ r. ⌜ r .0 ≡ nearest (n .0) d ⌝ }
 {
     if d == 0 {
         return plus(0);
     }
-    let x = size(n);
-    if negative(n) {
-        minus(half_down(x, d))
-    } else {
-        plus(half_up(x, d))
+    if d > LARGEST {
+        return settled(n, d, plus(0), size(n));
     }
+    settled(n, d, quotient(n, d), size(remainder(n, d)))
 }

@@ -6,7 +6,7 @@ mod frame;
 pub mod records;
 mod text;
 
-use crate::line::Asked;
+use crate::line::{read, Asked};
 use crate::refusal::Refusal;
 use crate::shape::{Form, Shape};
 use crate::xorshift::Xorshift;
@@ -79,6 +79,8 @@ pub struct Sampler {
     /// How many samples each kind has given; each goes through its variants
     /// in turn.
     turns: [usize; KINDS.len()],
+    /// The mirror that is to come next.
+    mirror: Option<Sample>,
 }
 
 impl Sampler {
@@ -87,6 +89,7 @@ impl Sampler {
             rng: Xorshift::new(seed),
             shapes: draft::legal_shapes(),
             turns: [0; KINDS.len()],
+            mirror: None,
         }
     }
 
@@ -97,8 +100,25 @@ impl Sampler {
             .then(|| self.rng.pick(&text::PASSED_OVER))
     }
 
-    /// The next sample.
+    /// The next sample. Right after each accepted request its mirror comes.
     pub fn draw(&mut self) -> Sample {
+        if let Some(mirror) = self.mirror.take() {
+            return mirror;
+        }
+        let sample = self.fresh();
+        if sample.expect == Expect::Number(0) {
+            let asked = read(&sample.line).expect("an accepted request is readable");
+            self.mirror = Some(Sample {
+                kind: format!("mirror of {}", sample.kind),
+                expect: sample.expect,
+                line: asked.mirrored().line().into_bytes(),
+            });
+        }
+        sample
+    }
+
+    /// The next sample that is no mirror.
+    fn fresh(&mut self) -> Sample {
         let at = share(&mut self.rng, &KINDS);
         let turn = self.turns[at];
         self.turns[at] += 1;
