@@ -1,30 +1,28 @@
 -- `request::value_place` meets its contract: nothing passed is beyond its bounds. Assumes nothing.
 use mathlib.Core.Path.{_≡_, sym, ap, _∙_}
-use mathlib.Core.Bool.{false}
-use Prim.Native.Nat.{ℕ, _-_, _≤_, _<_}
+use Prim.Native.Nat.{ℕ, _-_}
 use lib.IntN.{pos}
 use lib.ListN.{length, getD}
 use native.Mathlib.Omega.{arith}
-use borrow.Author.Count.{below-none, below-more}
 use borrow.Author.Needs.{needs}
 use Rattle.units.specs.Bounds.{beyondTravel}
 use Rattle.request.specs.Refusal.{valuePlace}
-use Rattle.request.proofs.Least.{least-at, least-none}
+use Rattle.request.proofs.Least.{Passed, none-passed, one-more, found, not-found}
 use Rattle.request.proofs.value_place.Statement.{statement}
 use Rattle.request.proofs.value_place.Tie as tie
 
 abbrev Inv-loop : tie.InvT-loop
-Inv-loop surface k₀ k = (k ≤ length surface) × ((i : ℕ) → i < k → beyondTravel (getD surface i (pos 0)) ≡ false)
+Inv-loop surface k₀ k = Passed (length surface) (λ i. beyondTravel (getD surface i (pos 0))) k
 
 abbrev μ-loop : tie.MeasureT-loop
 μ-loop surface k₀ k = length surface - k
 
 -- what the test says of the number that was read
-read : (c : tie.After-beyond-travel Inv-loop μ-loop) → c .beyond-travel .result ≡ beyondTravel (getD (c .before .before .before .before .args .surface .now) (c .before .before .before .loop .k) (pos 0))
-read c = c .beyond-travel .ensures ∙ ap beyondTravel (c .before .travel-at .ensures)
+read : (c : tie.After-beyond-travel Inv-loop μ-loop) → beyondTravel (getD (c .before .before .before .before .args .surface .now) (c .before .before .before .loop .k) (pos 0)) ≡ c .beyond-travel .result
+read c = sym (c .beyond-travel .ensures ∙ ap beyondTravel (c .before .travel-at .ensures))
 
 loop-holds : tie.Need-loop-holds Inv-loop μ-loop
-loop-holds c = (omega arith, below-none _)
+loop-holds c = none-passed (omega arith)
 
 travel-at-requires : tie.Need-travel-at-requires Inv-loop μ-loop
 travel-at-requires c κs = search needs
@@ -34,7 +32,7 @@ beyond-travel-requires c κs = search needs
 
 returns : tie.Need-returns Inv-loop μ-loop
 unfolding valuePlace
-returns c = sym (least-at _ _ _ (omega arith) (c .before .before .before .before .loop .inv .1) (sym (read (c .before)) ∙ c .if1 .taken))
+returns c = found (c .before .before .before .before .loop .inv) (omega arith) (read (c .before) ∙ c .if1 .taken)
 
 add-k : tie.Need-add-k Inv-loop μ-loop
 add-k c = omega arith
@@ -43,13 +41,11 @@ loop-less : tie.Need-loop-less Inv-loop μ-loop
 loop-less c = omega arith
 
 loop-again : tie.Need-loop-again Inv-loop μ-loop
-loop-again c = (omega arith, below-more _ _ (c .before .before .before .before .loop .inv .1) (sym (read (c .before)) ∙ c .if1 .left))
+loop-again c = one-more (c .before .before .before .before .loop .inv) (omega arith) (read (c .before) ∙ c .if1 .left)
 
 returns-2 : tie.Need-returns-2 Inv-loop μ-loop
 unfolding valuePlace
-returns-2 c =
-    let e : c .before .loop .k ≡ length (c .before .before .args .surface .now) = omega arith in
-    e ∙ sym (least-none _ _ (rw e at (c .before .loop .inv .1)))
+returns-2 c = not-found (c .before .loop .inv) (omega arith)
 
 pub value-place-spec : {M : Type 1} → statement M
 value-place-spec =
