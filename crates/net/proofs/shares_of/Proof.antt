@@ -32,7 +32,7 @@ along-u-requires-2 : tie.Need-along-u-requires-2
 along-u-requires-2 c κs = rw (c .path-size-at2 .ensures) (path-numbers (c .before .before .before .before .before .before .before .args .path .now) (c .before .before .before .before .before .before .before .pre .1 .numbers) _ .most)
 
 returns-2 : tie.Need-returns-2
-returns-2 c = subst (Weighs _) (u-argument (c .before .before .before .before .before .before .before .before .args .head) (c .before .before .before .before .before .before .before .before .args .path .now) (c .before .before .before .before .before .before .before .before .args .left) (c .before .before .before .before .before .before .before .before .args .c) (c .before .before .before .before .before .before .before .before .pre .1 .numbers) (c .before .before .before .before .if2 .taken) (c .before .before .if3 .taken) _ (c .before .path-size-at2 .ensures)) (c .along-u2 .ensures)
+returns-2 c = subst (Weighs _) (u-argument (c .before .before .before .before .before .before .before .before .args .head) (c .before .before .before .before .before .before .before .before .args .path .now) (c .before .before .before .before .before .before .before .before .args .left) (c .before .before .before .before .before .before .before .before .args .c) (c .before .before .before .before .before .before .before .before .pre .1 .numbers) (c .before .before .before .before .if2 .taken) (omega arith) _ (c .before .path-size-at2 .ensures)) (c .along-u2 .ensures)
 
 mul-path-size-at-2 : tie.Need-mul-path-size-at-2
 mul-path-size-at-2 c = search needs
@@ -47,7 +47,7 @@ along-v-requires : tie.Need-along-v-requires
 along-v-requires c κs = rw (c .path-size-at3 .ensures) (path-numbers (c .before .before .before .before .before .before .before .args .path .now) (c .before .before .before .before .before .before .before .pre .1 .numbers) _ .most)
 
 returns-3 : tie.Need-returns-3
-returns-3 c = subst (Weighs _) (v-argument (c .before .before .before .before .before .before .before .before .args .head) (c .before .before .before .before .before .before .before .before .args .path .now) (c .before .before .before .before .before .before .before .before .args .left) (c .before .before .before .before .before .before .before .before .args .c) (c .before .before .before .before .before .before .before .before .pre .1 .numbers) (c .before .before .before .before .if2 .taken) (c .before .before .if3 .left) _ (c .before .path-size-at3 .ensures)) (c .along-v .ensures)
+returns-3 c = subst (Weighs _) (v-argument (c .before .before .before .before .before .before .before .before .args .head) (c .before .before .before .before .before .before .before .before .args .path .now) (c .before .before .before .before .before .before .before .before .args .left) (c .before .before .before .before .before .before .before .before .args .c) (c .before .before .before .before .before .before .before .before .pre .1 .numbers) (c .before .before .before .before .if2 .taken) (omega arith) _ (c .before .path-size-at3 .ensures)) (c .along-v .ensures)
 
 within-requires : tie.Need-within-requires
 within-requires c κs =

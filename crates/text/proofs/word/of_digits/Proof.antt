@@ -16,14 +16,14 @@ run-requires : tie.Need-run-requires
 run-requires c κs = search needs
 
 returns-2 : tie.Need-returns-2
-returns-2 c = sym (ap capped (digits-none _ _ (c .before .before .if1 .left) (λ e. c .if2 .taken (c .before .run .ensures .is ∙ e))))
+returns-2 c = sym (ap capped (digits-none _ (c .before .before .before .before .args .digits .now) (omega arith) (λ e. c .if2 .taken (c .before .run .ensures .is ∙ e))))
 
 spell-requires : tie.Need-spell-requires
 spell-requires c κs = search needs
 
 -- past both tests the word is its digits' number
 all-digits : (c : tie.After-spell) → let a = c .before .before .before .before .before .args in ofDigits (a .minus) (a .digits .now) ≡ some (signed (a .minus) (spelled 0 (a .digits .now)))
-all-digits c = digits-all _ _ (c .before .before .before .if1 .left) (sym (c .before .before .run .ensures .is) ∙ c .before .if2 .left)
+all-digits c = digits-all _ (c .before .before .before .before .before .args .digits .now) (omega arith) (sym (c .before .before .run .ensures .is) ∙ c .before .if2 .left)
 
 returns-3 : tie.Need-returns-3
 returns-3 c =
