@@ -2,18 +2,22 @@
  *
  * One function on bytes. Every number of two bytes is little-endian; "signed" is two's complement.
  *
- * A request, LEAN_REQUEST:
+ * A request that carries the age of its tilt sample, LEAN_AGED_REQUEST:
  *
  *   byte 0, 1   length of the whole record
- *   byte 2, 3   kind, 0x0001
+ *   byte 2, 3   kind, 0x0002
  *   byte 4      form: 1 curve, 2 tensor surface, 3 triangular surface
  *   byte 5      first degree: m, l or n
  *   byte 6      second degree: 0, m or 0
  *   byte 7      N, the path's degree
- *   byte 8..    control values in 0.01 mm, signed, -4096 to 4096: m+1, (l+1)(m+1) or (n+1)(n+2)/2 of them;
+ *   byte 8, 9   age of the tilt sample in milliseconds, unsigned; above 250 it is refused
+ *   byte 10..   control values in 0.01 mm, signed, -4096 to 4096: m+1, (l+1)(m+1) or (n+1)(n+2)/2 of them;
  *               then path numbers in 1/1024, signed, 0 to 1024: 1, 2 or 3 times N+1 of them
  *
- * A reply, LEAN_REPLY:
+ * A request that carries no age, LEAN_REQUEST: the same with kind 0x0001 and without the two bytes of the age, so that its
+ * control values begin at byte 8. For now it counts as age 0.
+ *
+ * A reply to either, LEAN_REPLY:
  *
  *   byte 0, 1   length of the whole record, 8 + 2 * count
  *   byte 2, 3   kind, 0x8001
@@ -35,8 +39,11 @@ extern "C" {
 
 enum {
     LEAN_REQUEST = 0x0001,
+    LEAN_AGED_REQUEST = 0x0002,
     LEAN_REPLY = 0x8001,
-    LEAN_HEAD = 8,           /* bytes before a request's body and before a reply's points */
+    LEAN_HEAD = 8,           /* bytes before the body of a request without an age, and before a reply's points */
+    LEAN_AGED_HEAD = 10,     /* bytes before the body of a request with an age */
+    LEAN_MOST_AGE = 250,     /* the greatest age, in milliseconds, that is accepted */
     LEAN_REPLY_ROOM = 34,    /* a reply needs this much room, whatever it says */
     LEAN_MOST_POINTS = 13
 };
@@ -44,10 +51,11 @@ enum {
 /* The number in byte 4 of a reply, in the order of judgement. */
 enum {
     LEAN_ACCEPTED = 0,
-    LEAN_FRAME = 9,     /* fewer than 8 bytes, a length that is not the record's, another kind; or, after DEGREE, a body
-                           that is not exactly as long as the degrees say */
+    LEAN_FRAME = 9,     /* fewer than 8 bytes, or than 10 with an age; a length that is not the record's; another kind; or,
+                           after STALE, a body that is not exactly as long as the degrees say */
     LEAN_KIND = 1,      /* form is not 1, 2 or 3 */
     LEAN_DEGREE = 2,    /* r above 4, N above 3, or a second degree in forms 1 and 3 */
+    LEAN_STALE = 10,    /* the tilt sample is older than 250 ms */
     LEAN_VALUE = 6,     /* a control value beyond its bounds */
     LEAN_PARAMETER = 7, /* a path number beyond its bounds */
     LEAN_BALANCE = 8    /* form 3: x+y+z of a point is not 1024 */

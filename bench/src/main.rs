@@ -25,7 +25,7 @@ const ROUNDS: usize = 7;
 /// Rides of each cell of the tables.
 const ALIKE: usize = 600;
 
-type Compose = fn(u32, u32, u32, u32, &[i32], &[i32], &mut [i64], &mut [i32]) -> Answer;
+type Compose = fn(u32, u32, u32, u32, u16, &[i32], &[i32], &mut [i64], &mut [i32]) -> Answer;
 
 /// The programs, with the passes over all rides that take each some 50 ms.
 const PROGRAMS: [(&str, Compose, usize); 3] = [
@@ -54,6 +54,7 @@ impl Lent {
             ride.first,
             ride.second,
             ride.n,
+            ride.age,
             &ride.surface,
             &ride.path,
             &mut self.exact,

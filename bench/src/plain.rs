@@ -35,6 +35,7 @@ pub fn compose(
     first: u32,
     second: u32,
     n: u32,
+    age: u16,
     surface: &[i32],
     path: &[i32],
     exact: &mut [i64],
@@ -46,6 +47,9 @@ pub fn compose(
     let arguments = u64::from(first) + u64::from(second);
     if arguments > ARGUMENTS as u64 || n > PATH_DEGREE as u32 || form != 2 && second != 0 {
         return Refusal::Degree.at(0).answer();
+    }
+    if age > 250 {
+        return Refusal::Stale.at(0).answer();
     }
     let ride = Ride {
         form,

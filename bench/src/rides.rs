@@ -8,6 +8,7 @@ pub struct Ride {
     pub first: u32,
     pub second: u32,
     pub n: u32,
+    pub age: u16,
     pub surface: Vec<i32>,
     pub path: Vec<i32>,
 }
@@ -21,7 +22,7 @@ impl Ride {
 
 /// Rides of mixed forms: the form, the degrees of that form and N are each drawn evenly from all legal ones.
 pub fn mixed(rng: &mut Xorshift, count: usize) -> Vec<Ride> {
-    (0..count)
+    let rides = (0..count)
         .map(|_| {
             let form = rng.pick(&[1, 2, 3]);
             let degrees: Vec<(u32, u32)> = (0..=4).flat_map(|r| splits(form, r)).collect();
@@ -29,15 +30,25 @@ pub fn mixed(rng: &mut Xorshift, count: usize) -> Vec<Ride> {
             let n = rng.below(4) as u32;
             ride(rng, form, degrees, n)
         })
-        .collect()
+        .collect();
+    aged(rng, rides)
 }
 
 /// Rides of one form with r arguments and a path of degree N; in form 2 the ways to split r come in turn.
 pub fn alike(rng: &mut Xorshift, count: usize, form: u32, r: u32, n: u32) -> Vec<Ride> {
     let degrees = splits(form, r);
-    (0..count)
+    let rides = (0..count)
         .map(|turn| ride(rng, form, degrees[turn % degrees.len()], n))
-        .collect()
+        .collect();
+    aged(rng, rides)
+}
+
+/// These rides with ages drawn evenly from all legal ones.
+fn aged(rng: &mut Xorshift, mut rides: Vec<Ride>) -> Vec<Ride> {
+    for ride in &mut rides {
+        ride.age = rng.between(0, 250) as u16;
+    }
+    rides
 }
 
 /// The first and second degrees with sum r.
@@ -48,7 +59,7 @@ fn splits(form: u32, r: u32) -> Vec<(u32, u32)> {
     }
 }
 
-/// A ride with control values and path numbers drawn evenly from all legal ones.
+/// A ride of age 0 with control values and path numbers drawn evenly from all legal ones.
 fn ride(rng: &mut Xorshift, form: u32, (first, second): (u32, u32), n: u32) -> Ride {
     let values = match form {
         3 => (first + 1) * (first + 2) / 2,
@@ -72,6 +83,7 @@ fn ride(rng: &mut Xorshift, form: u32, (first, second): (u32, u32), n: u32) -> R
         first,
         second,
         n,
+        age: 0,
         surface,
         path,
     }

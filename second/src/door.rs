@@ -1,6 +1,6 @@
 //! The door for the drive: one request slice in, one lent reply slice out.
 
-use crate::record::{self, word, HEAD, REQUEST};
+use crate::record::{self, word, AGED, AGED_HEAD, HEAD, REQUEST};
 use crate::{compose, Answer, Request};
 
 /// The least room for a reply: a record of thirteen points.
@@ -33,18 +33,19 @@ pub fn door(request: &[u8], reply: &mut [u8]) -> usize {
 
 /// The answer to a request record; an accepted one's points are written.
 ///
-/// The frame comes first, then KIND and DEGREE, then the length of the body,
-/// which stands for SURFACE and PATH. Room is always enough.
+/// The frame comes first, then KIND, DEGREE and STALE, then the length of the
+/// body, which stands for SURFACE and PATH. Room is always enough.
 fn answer(record: &[u8], points: &mut [i32; MOST_POINTS]) -> Answer {
-    if !framed(record) {
+    let Some((age, head)) = framed(record) else {
         return FRAME;
-    }
+    };
     let [form, first, second, n] = [4, 5, 6, 7].map(|at| u32::from(record[at]));
     let request = Request {
         form,
         first,
         second,
         n,
+        age,
         surface: &[],
         path: &[],
     };
@@ -52,7 +53,7 @@ fn answer(record: &[u8], points: &mut [i32; MOST_POINTS]) -> Answer {
         Ok(shape) => shape,
         Err(refused) => return refused.answer(),
     };
-    let body = &record[HEAD..];
+    let body = &record[head..];
     if body.len() != 2 * (shape.control_count() + shape.path_count()) {
         return FRAME;
     }
@@ -62,12 +63,21 @@ fn answer(record: &[u8], points: &mut [i32; MOST_POINTS]) -> Answer {
         .collect();
     let (surface, path) = numbers.split_at(shape.control_count());
     let mut exact = [0; MOST_POINTS];
-    compose(form, first, second, n, surface, path, &mut exact, points)
+    compose(
+        form, first, second, n, age, surface, path, &mut exact, points,
+    )
 }
 
-/// Whether a slice has a head, is as long as it says, and is a request.
-fn framed(record: &[u8]) -> bool {
-    record.len() >= HEAD
-        && usize::from(word(record, 0)) == record.len()
-        && word(record, 2) == REQUEST
+/// The age of a request and the size of its head, if the slice has a whole
+/// head, is as long as it says, and is a request. A request that carries no
+/// age counts as age 0.
+fn framed(record: &[u8]) -> Option<(u16, usize)> {
+    if record.len() < HEAD || usize::from(word(record, 0)) != record.len() {
+        return None;
+    }
+    match word(record, 2) {
+        REQUEST => Some((0, HEAD)),
+        AGED if record.len() >= AGED_HEAD => Some((word(record, HEAD), AGED_HEAD)),
+        _ => None,
+    }
 }

@@ -37,7 +37,7 @@ pub struct Answer {
     pub count: u32,
 }
 
-/// Answers one request.
+/// Answers one request; its age is that of the tilt sample in milliseconds.
 ///
 /// Refused, neither array changes. Accepted, the first L+1 places of each
 /// array are written and all later places stay.
@@ -47,6 +47,7 @@ pub fn compose(
     first: u32,
     second: u32,
     n: u32,
+    age: u16,
     surface: &[i32],
     path: &[i32],
     exact: &mut [i64],
@@ -57,6 +58,7 @@ pub fn compose(
         first,
         second,
         n,
+        age,
         surface,
         path,
     };

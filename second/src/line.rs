@@ -2,7 +2,9 @@
 //!
 //! A request line is whole numbers with blanks between them: form, first
 //! degree, second degree, N; the count of control values and the values; the
-//! count of path numbers and the numbers; then, if wanted, the two rooms.
+//! count of path numbers and the numbers. After these there is nothing, or
+//! the age, or the two rooms, or the two rooms and the age; an age that the
+//! line does not name is 0.
 
 use crate::{compose, Answer};
 use std::fmt::Write;
@@ -32,6 +34,7 @@ pub struct Asked {
     pub first: u32,
     pub second: u32,
     pub n: u32,
+    pub age: u16,
     pub surface: Vec<i32>,
     pub path: Vec<i32>,
     /// Room for numerators and for points, if the line names them.
@@ -68,19 +71,19 @@ pub fn read(line: &[u8]) -> Result<Asked, String> {
     let n = words.unsigned("the path's degree")?;
     let surface = words.list("control value")?;
     let path = words.list("path number")?;
-    let rooms = match words.left() {
-        0 => None,
-        2 => Some((
-            words.small("the room for numerators")?,
-            words.small("the room for points")?,
-        )),
-        left => return Err(format!("{left} words left over, not 0 or 2")),
+    let (rooms, age) = match words.left() {
+        0 => (None, 0),
+        1 => (None, words.age()?),
+        2 => (Some(words.rooms()?), 0),
+        3 => (Some(words.rooms()?), words.age()?),
+        left => return Err(format!("{left} words left over, more than 3")),
     };
     Ok(Asked {
         form,
         first,
         second,
         n,
+        age,
         surface,
         path,
         rooms,
@@ -133,6 +136,18 @@ impl<'a> Words<'a> {
         self.number(what, 0, MOST).map(|value| value as usize)
     }
 
+    /// The rooms for numerators and for points.
+    fn rooms(&mut self) -> Result<(usize, usize), String> {
+        let exact = self.small("the room for numerators")?;
+        let points = self.small("the room for points")?;
+        Ok((exact, points))
+    }
+
+    fn age(&mut self) -> Result<u16, String> {
+        self.number("the age", 0, i64::from(u16::MAX))
+            .map(|value| value as u16)
+    }
+
     /// A count and as many values.
     fn list(&mut self, what: &str) -> Result<Vec<i32>, String> {
         let count = self.small(&format!("the count of {what}s"))?;
@@ -161,7 +176,8 @@ fn whole(word: &[u8]) -> Option<i64> {
 }
 
 impl Asked {
-    /// The request line; `read` gives the same request back.
+    /// The request line; `read` gives the same request back. Age 0 is not
+    /// written.
     pub fn line(&self) -> String {
         let mut line = format!("{} {} {} {}", self.form, self.first, self.second, self.n);
         for list in [&self.surface, &self.path] {
@@ -170,6 +186,9 @@ impl Asked {
         }
         if let Some((exact, points)) = self.rooms {
             append(&mut line, &[exact, points]);
+        }
+        if self.age > 0 {
+            append(&mut line, &[self.age]);
         }
         line
     }
@@ -197,6 +216,7 @@ impl Asked {
             self.first,
             self.second,
             self.n,
+            self.age,
             &self.surface,
             &self.path,
             &mut exact,

@@ -5,14 +5,20 @@
 use crate::line::Asked;
 use crate::Answer;
 
-/// The kind of a request.
+/// The kind of a request that carries no age.
 pub const REQUEST: u16 = 0x0001;
+
+/// The kind of a request that carries its age, in two bytes after N.
+pub const AGED: u16 = 0x0002;
 
 /// The kind of a reply.
 pub const REPLY: u16 = 0x8001;
 
 /// The bytes before the numbers of a request or the points of a reply.
 pub const HEAD: usize = 8;
+
+/// The bytes before the numbers of a request that carries its age.
+pub const AGED_HEAD: usize = 10;
 
 /// The two bytes at `at` as a number.
 pub fn word(record: &[u8], at: usize) -> u16 {
@@ -43,10 +49,20 @@ fn write<'a>(kind: u16, four: [u32; 4], numbers: impl Iterator<Item = &'a i32>) 
     record
 }
 
-/// The record of a request whose numbers fit it. Rooms are not carried.
+/// The record of a request whose numbers fit it. Neither rooms nor an age are
+/// carried.
 pub fn request(asked: &Asked) -> Vec<u8> {
     let four = [asked.form, asked.first, asked.second, asked.n];
     write(REQUEST, four, asked.surface.iter().chain(&asked.path))
+}
+
+/// The same with the age that the request has.
+pub fn aged(asked: &Asked) -> Vec<u8> {
+    let mut record = request(asked);
+    put(&mut record, 2, AGED);
+    record.splice(HEAD..HEAD, asked.age.to_le_bytes());
+    settle(&mut record);
+    record
 }
 
 /// The record of a reply with these points.

@@ -1,9 +1,10 @@
-//! The eight refusals.
+//! The nine refusals.
 
 use crate::Answer;
 
-/// Why a request is refused; the number of each is its rank in the order.
-#[derive(Clone, Copy, Debug, PartialEq, Eq, PartialOrd, Ord)]
+/// Why a request is refused, with the number of each. STALE came late: its
+/// number is not its rank in the order, and 9 is the door's.
+#[derive(Clone, Copy, Debug, PartialEq, Eq)]
 pub enum Refusal {
     Kind = 1,
     Degree = 2,
@@ -13,13 +14,15 @@ pub enum Refusal {
     Value = 6,
     Parameter = 7,
     Balance = 8,
+    Stale = 10,
 }
 
 impl Refusal {
-    /// All eight, in the order in which they are tested.
-    pub const ALL: [Refusal; 8] = [
+    /// All nine, in the order in which they are tested.
+    pub const ALL: [Refusal; 9] = [
         Refusal::Kind,
         Refusal::Degree,
+        Refusal::Stale,
         Refusal::Surface,
         Refusal::Path,
         Refusal::Room,
@@ -38,6 +41,7 @@ impl Refusal {
         match self {
             Refusal::Kind => "KIND",
             Refusal::Degree => "DEGREE",
+            Refusal::Stale => "STALE",
             Refusal::Surface => "SURFACE",
             Refusal::Path => "PATH",
             Refusal::Room => "ROOM",

@@ -10,6 +10,9 @@ pub const MOST_ARGUMENTS: u64 = 4;
 /// The largest N.
 pub const MOST_PATH_DEGREE: u64 = 3;
 
+/// The largest age of a tilt sample, in milliseconds.
+pub const MOST_AGE: u16 = 250;
+
 /// One request as it comes, unchecked.
 #[derive(Clone, Copy, Debug)]
 pub struct Request<'a> {
@@ -17,6 +20,8 @@ pub struct Request<'a> {
     pub first: u32,
     pub second: u32,
     pub n: u32,
+    /// The age of the tilt sample, in milliseconds.
+    pub age: u16,
     pub surface: &'a [i32],
     pub path: &'a [i32],
 }
@@ -30,14 +35,18 @@ pub struct Accepted {
 }
 
 impl Request<'_> {
-    /// The shape, unless KIND or DEGREE comes before; the arrays do not
-    /// matter yet.
+    /// The shape, unless KIND, DEGREE or STALE comes before; the arrays do
+    /// not matter yet.
     pub fn shape(&self) -> Result<Shape, Refused> {
         let form = Form::from_number(self.form).ok_or(Refusal::Kind.at(0))?;
-        self.degrees(form).ok_or(Refusal::Degree.at(0))
+        let shape = self.degrees(form).ok_or(Refusal::Degree.at(0))?;
+        if self.age > MOST_AGE {
+            return Err(Refusal::Stale.at(0));
+        }
+        Ok(shape)
     }
 
-    /// Tests the eight refusals in their order, with these rooms for the
+    /// Tests the nine refusals in their order, with these rooms for the
     /// numerators and the points.
     pub fn check(&self, exact_room: usize, points_room: usize) -> Result<Accepted, Refused> {
         let shape = self.shape()?;

@@ -24,6 +24,7 @@ fn rides(seed: u64, draws: usize) -> impl Iterator<Item = (Accepted, line::Reply
             first: asked.first,
             second: asked.second,
             n: asked.n,
+            age: asked.age,
             surface: &asked.surface,
             path: &asked.path,
         };

@@ -13,6 +13,14 @@ fn record(four: [u8; 4], surface: &[i16], path: &[i16]) -> Vec<u8> {
     true_length(bytes)
 }
 
+/// A request record that carries its age; its length is true.
+fn aged(four: [u8; 4], age: u16, surface: &[i16], path: &[i16]) -> Vec<u8> {
+    let mut bytes = record(four, surface, path);
+    bytes[2] = 0x02;
+    bytes.splice(8..8, age.to_le_bytes());
+    true_length(bytes)
+}
+
 /// The same bytes with a true length.
 fn true_length(mut bytes: Vec<u8>) -> Vec<u8> {
     let length = (bytes.len() as u16).to_le_bytes();
@@ -79,6 +87,14 @@ fn the_rides_reckoned_by_hand() {
     ];
     for (four, surface, path, points) in rides {
         assert_eq!(told(&record(four, surface, path)), accepted(points));
+        for age in [0, 1, 249, 250] {
+            let request = aged(four, age, surface, path);
+            assert_eq!(told(&request), accepted(points));
+        }
+        for age in [251, 252, 256, 65535] {
+            let request = aged(four, age, surface, path);
+            assert_eq!(told(&request), refused(10, 0));
+        }
     }
 }
 
@@ -89,6 +105,10 @@ fn the_bytes_of_a_ride() {
         0x12, 0x00, 0x01, 0x00, 1, 2, 0, 1, 2, 0, 3, 0, 0xfe, 0xff, 0, 0, 0, 4,
     ];
     let reply = [0x0e, 0x00, 0x01, 0x80, 0, 0, 3, 0, 2, 0, 3, 0, 0xfe, 0xff];
+    assert_eq!(told(&request), reply);
+    let request = [
+        0x14, 0x00, 0x02, 0x00, 1, 2, 0, 1, 0xfa, 0x00, 2, 0, 3, 0, 0xfe, 0xff, 0, 0, 0, 4,
+    ];
     assert_eq!(told(&request), reply);
 }
 
@@ -131,6 +151,57 @@ fn frame_by_fewer_than_8_bytes() {
     assert_eq!(told(&[8, 0, 1, 0, 1, 0, 0, 0]), refused(9, 0));
 }
 
+/// A request that is to carry its age needs 10 bytes, and KIND waits for
+/// them; a request without an age needs 8.
+#[test]
+fn frame_by_fewer_than_10_bytes() {
+    for form in [0, 1, 4] {
+        for count in 0..14 {
+            for kind in [1, 2] {
+                let mut bytes = vec![0, 0, kind, 0, form, 0, 0, 0, 0, 0, 7, 0, 9, 0];
+                bytes.truncate(count);
+                let number = match (kind, count) {
+                    (_, 0..=7) | (2, 8..=9) => 9,
+                    _ if form != 1 => 1,
+                    _ => 9,
+                };
+                if count < 2 {
+                    assert_eq!(told(&bytes), refused(9, 0));
+                } else if (kind, count, form) == (1, 12, 1) {
+                    assert_eq!(told(&true_length(bytes)), accepted(&[0]));
+                } else {
+                    assert_eq!(told(&true_length(bytes)), refused(number, 0));
+                }
+            }
+        }
+    }
+    let whole = aged([1, 0, 0, 0], 0, &[7], &[9]);
+    assert_eq!(told(&whole), accepted(&[7]));
+}
+
+/// Every age there is; a body of a wrong length comes after.
+#[test]
+fn stale() {
+    for age in 0..=u16::MAX {
+        let good = aged([1, 0, 0, 0], age, &[7], &[9]);
+        let empty = aged([1, 0, 0, 0], age, &[], &[]);
+        if age <= 250 {
+            assert_eq!(told(&good), accepted(&[7]));
+            assert_eq!(told(&empty), refused(9, 0));
+        } else {
+            assert_eq!(told(&good), refused(10, 0));
+            assert_eq!(told(&empty), refused(10, 0));
+        }
+    }
+}
+
+/// The first number of a record without an age is no age.
+#[test]
+fn no_age_is_age_0() {
+    let request = record([1, 0, 0, 0], &[251], &[251]);
+    assert_eq!(told(&request), accepted(&[251]));
+}
+
 #[test]
 fn frame_by_length() {
     let good = record([1, 1, 0, 1], &[0, 100], &[0, 1024]);
@@ -164,6 +235,18 @@ fn frame_by_kind() {
         if kind == 1 {
             assert_eq!(told(&bytes), accepted(&[0, 100]));
         } else {
+            // As kind 2 the first number is the age, and the body too short.
+            assert_eq!(told(&bytes), refused(9, 0));
+        }
+    }
+    let good = aged([1, 1, 0, 1], 250, &[0, 100], &[0, 1024]);
+    for kind in 0..=u16::MAX {
+        let mut bytes = good.clone();
+        bytes[2..4].copy_from_slice(&kind.to_le_bytes());
+        if kind == 2 {
+            assert_eq!(told(&bytes), accepted(&[0, 100]));
+        } else {
+            // As kind 1 the age is a number, and the body too long.
             assert_eq!(told(&bytes), refused(9, 0));
         }
     }
@@ -172,8 +255,16 @@ fn frame_by_kind() {
 #[test]
 fn kind() {
     for form in 0..=255 {
-        let number = if (1..=3).contains(&form) { 9 } else { 1 };
-        assert_eq!(told(&record([form, 0, 0, 0], &[], &[])), refused(number, 0));
+        // An empty body is seen only after KIND, and so is an old age.
+        let (body, old) = if (1..=3).contains(&form) {
+            (9, 10)
+        } else {
+            (1, 1)
+        };
+        let four = [form, 0, 0, 0];
+        assert_eq!(told(&record(four, &[], &[])), refused(body, 0));
+        assert_eq!(told(&aged(four, 250, &[], &[])), refused(body, 0));
+        assert_eq!(told(&aged(four, 251, &[], &[])), refused(old, 0));
     }
 }
 
@@ -190,7 +281,10 @@ fn degree() {
                     let legal = l + m <= 4 && q <= 3 && (form == 2 || m == 0);
                     if !legal {
                         for body in [0, 1, 2, 5] {
-                            let request = record([form, first, second, n], &[0; 5][..body], &[]);
+                            let four = [form, first, second, n];
+                            let request = record(four, &[0; 5][..body], &[]);
+                            assert_eq!(told(&request), refused(2, 0));
+                            let request = aged(four, 65535, &[0; 5][..body], &[]);
                             assert_eq!(told(&request), refused(2, 0));
                         }
                         continue;
@@ -273,11 +367,12 @@ fn balance() {
 }
 
 /// What can be wrong, each a step of its own, in the order of the door.
-const STEPS: usize = 7;
+const STEPS: usize = 8;
 
-/// A record with these faults, and the reply to the first of them.
-fn with(faults: [bool; STEPS]) -> (Vec<u8>, Vec<u8>) {
-    let [length, other_kind, form, degree, body, value, parameter] = faults;
+/// A record with these faults, and the reply to the first of them. STALE is
+/// possible only where the age is carried.
+fn with(faults: [bool; STEPS], carried: bool) -> (Vec<u8>, Vec<u8>) {
+    let [length, other_kind, form, degree, stale, body, value, parameter] = faults;
     // A triangle of degree 2, or 5, the last point out of balance.
     let first: u8 = if degree { 5 } else { 2 };
     let control = usize::from((first + 1) * (first + 2) / 2);
@@ -289,8 +384,13 @@ fn with(faults: [bool; STEPS]) -> (Vec<u8>, Vec<u8>) {
     if parameter {
         path[4] = 1025;
     }
-    let number = if form { 4 } else { 3 };
-    let mut bytes = record([number, first, 0, 2], &surface, &path);
+    let four = [if form { 4 } else { 3 }, first, 0, 2];
+    let mut bytes = if carried {
+        let age = if stale { 251 } else { 250 };
+        aged(four, age, &surface, &path)
+    } else {
+        record(four, &surface, &path)
+    };
     if body {
         bytes.extend([0, 0]);
         bytes = true_length(bytes);
@@ -306,6 +406,7 @@ fn with(faults: [bool; STEPS]) -> (Vec<u8>, Vec<u8>) {
         refused(9, 0),
         refused(1, 0),
         refused(2, 0),
+        refused(10, 0),
         refused(9, 0),
         refused(6, 3),
         refused(7, 4),
@@ -318,7 +419,11 @@ fn with(faults: [bool; STEPS]) -> (Vec<u8>, Vec<u8>) {
 fn order_in_pairs_and_beyond() {
     for set in 0_u32..1 << STEPS {
         let faults = std::array::from_fn(|at| set >> at & 1 == 1);
-        let (bytes, reply) = with(faults);
-        assert_eq!(told(&bytes), reply, "{faults:?}");
+        for carried in [false, true] {
+            if carried || !faults[4] {
+                let (bytes, reply) = with(faults, carried);
+                assert_eq!(told(&bytes), reply, "{faults:?}");
+            }
+        }
     }
 }

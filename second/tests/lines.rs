@@ -25,6 +25,47 @@ fn answer_lines() {
     assert_eq!(told("1 1 0 1 2 0 4097 2 0 1025"), "6 1 0 | |");
 }
 
+/// After the path numbers: nothing, the age, the rooms, or the rooms and the
+/// age.
+#[test]
+fn ages() {
+    let p1 = "1 1 0 1 2 0 100 2 0 1024";
+    let with = |words: &str| told(&format!("{p1} {words}"));
+    let good = "0 0 2 | 0 102400 | 0 100";
+    for words in [
+        "", "0", "7", "249", "250", "0250", "-0", "2 2", "2 2 0", "2 2 250",
+    ] {
+        assert_eq!(with(words), good);
+    }
+    assert_eq!(with("251"), "10 0 0 | |");
+    assert_eq!(with("65535"), "10 0 0 | |");
+    assert_eq!(with("3 2 250"), "0 0 2 | 0 102400 -7 | 0 100");
+    assert_eq!(with("3 2 251"), "10 0 0 | -7 -7 -7 | -9 -9");
+    assert_eq!(with("1 2 251"), "10 0 0 | -7 | -9 -9");
+    assert_eq!(with("1 2 250"), "5 0 0 | -7 | -9 -9");
+    for words in [
+        "65536",
+        "-1",
+        "x",
+        "2 2 65536",
+        "2 2 -1",
+        "65 2 0",
+        "2 2 0 0",
+    ] {
+        assert!(read(format!("{p1} {words}").as_bytes()).is_err(), "{words}");
+    }
+    let read = |words: &str| read(format!("{p1} {words}").as_bytes()).unwrap();
+    assert_eq!((read("").age, read("").rooms), (0, None));
+    assert_eq!((read("13").age, read("13").rooms), (13, None));
+    assert_eq!((read("13 9").age, read("13 9").rooms), (0, Some((13, 9))));
+    let three = read("13 9 65535");
+    assert_eq!((three.age, three.rooms), (65535, Some((13, 9))));
+    for words in ["13", "13 9", "13 9 65535"] {
+        assert_eq!(read(words).line(), format!("{p1} {words}"));
+    }
+    assert_eq!(read("0").line(), p1);
+}
+
 #[test]
 fn blanks_zeros_and_signs() {
     let plain = read(b"1 0 0 0 1 -5 1 7").unwrap();
@@ -41,6 +82,8 @@ fn blanks_zeros_and_signs() {
 fn ends_of_the_numbers() {
     let line = "4294967295 4294967295 0 4294967295 1 -2147483648 1 2147483647 64 0";
     assert_eq!(read(line.as_bytes()).unwrap().line(), line);
+    let line = &format!("{line} 65535");
+    assert_eq!(read(line.as_bytes()).unwrap().line(), *line);
     for bad in [
         "4294967296 0 0 0 0 0",
         "-1 0 0 0 0 0",
@@ -53,8 +96,10 @@ fn ends_of_the_numbers() {
         "0 0 0 0 0 65",
         "0 0 0 0 0 0 65 0",
         "0 0 0 0 0 0 0 -1",
-        "0 0 0 0 0 0 0",
-        "0 0 0 0 0 0 0 0 0",
+        "0 0 0 0 0 0 65536",
+        "0 0 0 0 0 0 -1",
+        "0 0 0 0 0 0 0 0 65536",
+        "0 0 0 0 0 0 0 0 0 0",
         "0 0 0 0 0",
         "0 0 0 0 1 5",
         "0 0 0 0 1 5 1",
@@ -111,10 +156,12 @@ fn samples_are_what_they_say() {
         *kinds.entry(sample.kind).or_default() += 1;
     }
     let pairs = kinds.keys().filter(|kind| kind.starts_with("pair"));
-    assert_eq!(pairs.count(), 28);
+    assert_eq!(pairs.count(), 36);
     let alone = kinds.keys().filter(|kind| kind.starts_with("alone"));
-    assert_eq!(alone.count(), 8);
-    assert!(kinds.values().all(|&times| times > 50), "{kinds:?}");
+    assert_eq!(alone.count(), 9);
+    let ages = kinds.keys().filter(|kind| kind.starts_with("age"));
+    assert_eq!(ages.count(), 54);
+    assert!(kinds.values().all(|&times| times > 30), "{kinds:?}");
 }
 
 #[test]

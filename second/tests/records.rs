@@ -25,8 +25,11 @@ fn records_are_what_they_say() {
         *rooms.entry(record.room).or_default() += 1;
     }
     let count = |start: &str| kinds.keys().filter(|kind| kind.starts_with(start)).count();
-    assert_eq!(count("alone"), 8);
-    assert_eq!(count("pair"), 28);
+    assert_eq!(count("alone"), 9);
+    assert_eq!(count("pair"), 36);
+    assert_eq!(count("age"), 54);
+    assert_eq!(count("good"), 6);
+    assert_eq!(count("short"), 20);
     assert_eq!(count("endless"), 4);
     assert!(kinds.values().all(|&times| times > 10), "{kinds:?}");
     for room in (0..=133).chain([1024]) {
@@ -54,7 +57,7 @@ fn the_door_agrees_with_itself() {
     assert_eq!(tally.all(), 20_000);
     assert_eq!(tally.numbers.values().sum::<u64>() + tally.silent, 20_000);
     let numbers: Vec<u8> = tally.numbers.keys().copied().collect();
-    assert_eq!(numbers, [0, 1, 2, 6, 7, 8, 9]);
+    assert_eq!(numbers, [0, 1, 2, 6, 7, 8, 9, 10]);
     assert!(tally.silent > 1000);
     assert!(doors_agree(2, 100, door));
 }
@@ -95,6 +98,36 @@ fn wrong_doors_are_found() {
     wrong(|request, reply| {
         let count = door(request, reply);
         if count == 8 && reply[4] == 9 && request.len() > 8 && request[4] > 3 {
+            reply[4] = 1;
+        }
+        count
+    });
+    // It asks for the age only after the body.
+    wrong(|request, reply| {
+        let count = door(request, reply);
+        if count == 8 && reply[4] == 10 {
+            let mut fresh = request.to_vec();
+            fresh[8..10].fill(0);
+            door(&fresh, reply);
+            if reply[4] != 9 {
+                reply[..8].copy_from_slice(&[8, 0, 1, 0x80, 10, 0, 0, 0]);
+            }
+        }
+        count
+    });
+    // It takes 251 for fresh.
+    wrong(|request, reply| {
+        let mut fresh = request.to_vec();
+        if request.len() > 10 && request[2] == 2 && request[8..10] == [251, 0] {
+            fresh[8] = 250;
+        }
+        door(&fresh, reply)
+    });
+    // It looks at the form though the age is cut off.
+    wrong(|request, reply| {
+        let count = door(request, reply);
+        let cut = matches!(request, [8, 0, 2, 0, ..] | [9, 0, 2, 0, ..]);
+        if count == 8 && cut && request[4] > 3 {
             reply[4] = 1;
         }
         count

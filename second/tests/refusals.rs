@@ -22,6 +22,7 @@ fn plain(form: Form, first: u32, second: u32, n: u32) -> Asked {
         first,
         second,
         n,
+        age: 0,
         surface: vec![5; shape.control_count()],
         path,
         rooms: Some((room, room)),
@@ -116,6 +117,7 @@ fn huge_degrees_do_not_wrap() {
                     first,
                     second,
                     n,
+                    age: 251,
                     surface: vec![0; count],
                     path: vec![0; count],
                     rooms: Some((64, 64)),
@@ -125,6 +127,24 @@ fn huge_degrees_do_not_wrap() {
             }
         }
     }
+}
+
+#[test]
+fn stale() {
+    for form in [Form::Curve, Form::Tensor, Form::Triangle] {
+        let mut asked = plain(form, 1, 0, 0);
+        for age in 0..=u16::MAX {
+            asked.age = age;
+            assert_eq!(told(&asked), (if age > 250 { 10 } else { 0 }, 0));
+        }
+    }
+}
+
+/// The numbers as they are given, in the order in which they are tested.
+#[test]
+fn numbers_and_order() {
+    let numbers = Refusal::ALL.map(Refusal::number);
+    assert_eq!(numbers, [1, 2, 10, 3, 4, 5, 6, 7, 8]);
 }
 
 #[test]
@@ -271,6 +291,7 @@ fn with(faults: &[Refusal]) -> Asked {
         match fault {
             Refusal::Kind => asked.form = 4,
             Refusal::Degree => {}
+            Refusal::Stale => asked.age = 251,
             Refusal::Surface => asked.surface.push(5),
             Refusal::Path => asked.path.push(0),
             Refusal::Room => asked.rooms = Some((64, (degree * 2) as usize)),
@@ -293,10 +314,10 @@ fn order_in_pairs_and_beyond() {
     };
     // All sets of faults: the first in the order is the answer. The pairs
     // are among them.
-    for set in 1_u32..256 {
-        let faults: Vec<Refusal> = Refusal::ALL
-            .into_iter()
-            .filter(|refusal| set >> (refusal.number() - 1) & 1 == 1)
+    for set in 1_u32..512 {
+        let faults: Vec<Refusal> = (0..Refusal::ALL.len())
+            .filter(|rank| set >> rank & 1 == 1)
+            .map(|rank| Refusal::ALL[rank])
             .collect();
         let first = faults[0];
         assert_eq!(told(&with(&faults)), (first.number(), place(first)));

@@ -1,4 +1,5 @@
-//! The rides to reckon by hand, P1 to P12, and the line marked Run.
+//! The rides to reckon by hand, P1 to P12, and the line marked Run, all of
+//! age 0.
 
 use second::{compose, Answer};
 
@@ -15,6 +16,7 @@ fn ride(degrees: [u32; 4], surface: &[i32], path: &[i32]) -> (Answer, Vec<i64>, 
         first,
         second,
         n,
+        0,
         surface,
         path,
         &mut exact,
@@ -182,6 +184,7 @@ fn refused(
         first,
         second,
         n,
+        0,
         surface,
         path,
         &mut exact,

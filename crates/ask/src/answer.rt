@@ -9,6 +9,7 @@ use libc::STDERR_FILENO;
 use text::Line;
 use text::Request;
 use text::write_bytes;
+use units::Age;
 
 // What is wrong with a line, in words.
 fn write_reason(reason: u8, out: &mut [u8], at: usize) -> usize
@@ -80,6 +81,7 @@ fn reply(
         asked.head.first,
         asked.head.second,
         asked.head.N,
+        Age(asked.age),
         &surface[..values],
         &path[..numbers],
         &mut exact[..a],

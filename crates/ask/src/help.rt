@@ -56,6 +56,15 @@ fn say_request() {
     );
     io::write_all(
         STDOUT_FILENO,
+        b"  age                   if wanted, of the tilt sample in milliseconds, 0 to 65535\n",
+    );
+    io::write_all(
+        STDOUT_FILENO,
+        b"One word at the end is the age, two are the rooms, three the rooms and then the age.\n",
+    );
+    io::write_all(STDOUT_FILENO, b"An age that is not given counts as 0.\n");
+    io::write_all(
+        STDOUT_FILENO,
         b"A number is digits, with - before them below 0. A line is at most 4096 bytes long.\n",
     );
     io::write_all(
@@ -78,17 +87,21 @@ fn say_answer() {
     );
     io::write_all(
         STDOUT_FILENO,
-        b"7 PARAMETER, 8 BALANCE. Without rooms the first count places of both arrays are\n",
+        b"7 PARAMETER, 8 BALANCE, 10 STALE: an age above 250, tested right after DEGREE.\n",
     );
     io::write_all(
         STDOUT_FILENO,
-        b"shown; with rooms all places are, which hold -7 and -9 beforehand. A line that\n",
+        b"Without rooms the first count places of both arrays are shown; with rooms all\n",
     );
     io::write_all(
         STDOUT_FILENO,
-        b"cannot be read is answered by `unreadable`, and FILE:LINE: what is wrong with it\n",
+        b"places are, which hold -7 and -9 beforehand. A line that cannot be read is\n",
     );
-    io::write_all(STDOUT_FILENO, b"goes to standard error.\n");
+    io::write_all(
+        STDOUT_FILENO,
+        b"answered by `unreadable`, and FILE:LINE: what is wrong with it goes to standard\n",
+    );
+    io::write_all(STDOUT_FILENO, b"error.\n");
     io::write_all(STDOUT_FILENO, b"\n");
     io::write_all(
         STDOUT_FILENO,

@@ -18,14 +18,14 @@ use Rattle.compose.specs.Afterwards.{pointsAfter}
 use Rattle.compose.proofs.Acceptance.{accepts}
 use Rattle.compose.proofs.Written.{afterwards-at}
 
-points-at : (rq : Request) (exact points : List ℤ) → answer rq (length exact) (length points) .number ≡ 0
-    → (R : ℕ) → R ≤ longest (rq .head) → getD (pointsAfter rq exact points) R (pos 0) ≡ point rq R
+points-at : (rq : Request) (age : ℕ) (exact points : List ℤ) → answer rq age (length exact) (length points) .number ≡ 0
+    → (R : ℕ) → R ≤ longest (rq .head) → getD (pointsAfter rq age exact points) R (pos 0) ≡ point rq R
 unfolding pointsAfter accepted
-points-at rq exact points zero-is R h =
-    afterwards-at _ (point rq) points R (pos 0) (omega (arith, ap (λ (a : Answer). a .count) (accepts rq (length exact) (length points) zero-is .answered)))
+points-at rq age exact points zero-is R h =
+    afterwards-at _ (point rq) points R (pos 0) (omega (arith, ap (λ (a : Answer). a .count) (accepts rq age (length exact) (length points) zero-is .answered)))
 
-pub demand3 : (rq : Request) (exact points : List ℤ) → answer rq (length exact) (length points) .number ≡ 0 → (k q : ℕ) → k ≤ q
-    → natAbs (pos 2 *ℤ (pos (1024 ^ degree (rq .head)) *ℤ drawn (longest (rq .head)) (pointsAfter rq exact points) k q -ℤ surfaceRead rq k q))
+pub demand3 : (rq : Request) (age : ℕ) (exact points : List ℤ) → answer rq age (length exact) (length points) .number ≡ 0 → (k q : ℕ) → k ≤ q
+    → natAbs (pos 2 *ℤ (pos (1024 ^ degree (rq .head)) *ℤ drawn (longest (rq .head)) (pointsAfter rq age exact points) k q -ℤ surfaceRead rq k q))
     ≤ 1024 ^ degree (rq .head) * q ^ longest (rq .head)
-demand3 rq exact points zero-is k q h =
-    rw (drawn-is (longest (rq .head)) (pointsAfter rq exact points) k q (point rq) (points-at rq exact points zero-is)) (moment rq k q h)
+demand3 rq age exact points zero-is k q h =
+    rw (drawn-is (longest (rq .head)) (pointsAfter rq age exact points) k q (point rq) (points-at rq age exact points zero-is)) (moment rq k q h)

@@ -35,17 +35,17 @@ scale-most (suc (suc (suc (suc zero)))) m = lit≤ tt
 scale-most (suc (suc (suc (suc (suc r))))) m = absurd (omega arith)
 
 -- a refusal leaves everything as it was
-pub refused-result : (rq : Request) (exact points : List ℤ) (a : Answer) → a ≡ answer rq (length exact) (length points) → (a .number ≡ 0 → ⊥)
-    → Composed rq exact points a exact points
+pub refused-result : (rq : Request) (age : ℕ) (exact points : List ℤ) (a : Answer) → a ≡ answer rq age (length exact) (length points) → (a .number ≡ 0 → ⊥)
+    → Composed rq age exact points a exact points
 unfolding exactAfter pointsAfter
-refused-result rq exact points a e some =
-    let none : answer rq (length exact) (length points) .count ≡ 0 = refused-none rq (length exact) (length points) (rw e at some) in
+refused-result rq age exact points a e some =
+    let none : answer rq age (length exact) (length points) .count ≡ 0 = refused-none rq age (length exact) (length points) (rw e at some) in
     record { answered = e; exact-is = rw none (sym (afterwards-none _ exact)); points-is = rw none (sym (afterwards-none _ points)) }
 
 -- what acceptance leaves of a request
-pub composable : (rq : Request) (e p : ℕ) → Accepted rq e p → Composable rq
+pub composable : (rq : Request) (age e p : ℕ) → Accepted rq age e p → Composable rq
 unfolding notValue notParameter notBalance
-composable rq e p f =
+composable rq age e p f =
     let v : length (rq .surface) ≤ valuePlace (rq .surface) = ltb-false _ _ (f .value) in
     let m : length (rq .path) ≤ parameterPlace (rq .path) = ltb-false _ _ (f .parameter) in
     record {
@@ -66,10 +66,10 @@ pub record Room (rq : Request) (e p count : ℕ) : Type 0 where
   pub exact-room : count ≤ e
   pub points-room : count ≤ p
 
-pub room-for : (rq : Request) (e p : ℕ) (a : Answer) → a ≡ answer rq e p → a .number ≡ 0 → Room rq e p (a .count)
+pub room-for : (rq : Request) (age e p : ℕ) (a : Answer) → a ≡ answer rq age e p → a .number ≡ 0 → Room rq e p (a .count)
 unfolding accepted notRoom longest
-room-for rq e p a eq number =
-    let f = accepts rq e p (ap (λ (b : Answer). b .number) (sym eq) ∙ number) in
+room-for rq age e p a eq number =
+    let f = accepts rq age e p (ap (λ (b : Answer). b .number) (sym eq) ∙ number) in
     let is : a .count ≡ degree (rq .head) * rq .head .N + 1 = ap (λ (b : Answer). b .count) (eq ∙ f .answered) in
     let L : degree (rq .head) * rq .head .N ≤ 4 * 3 = mul-le-mul (degree-most (rq .head) (f .degrees)) (small (rq .head) (f .degrees) .N-most) in
     let r = or-none _ _ (f .room) in
@@ -92,12 +92,12 @@ module _ (rq : Request) (nums : List ℤ) (scale count : ℕ) (fine : Composable
     most = λ R l. rw (rounds R l) (point-size rq fine R (omega arith));
   }
 
-  pub accepted-result : (exact points : List ℤ) (a : Answer) → a ≡ answer rq (length exact) (length points) → a .count ≡ count → (exact′ points′ : List ℤ)
+  pub accepted-result : (age : ℕ) (exact points : List ℤ) (a : Answer) → a ≡ answer rq age (length exact) (length points) → a .count ≡ count → (exact′ points′ : List ℤ)
       → exact′ ≡ afterwards count (λ R. getD nums R (pos 0)) exact → points′ ≡ afterwards count (roundedAt nums (count - 1) scale) points
-      → Composed rq exact points a exact′ points′
+      → Composed rq age exact points a exact′ points′
   unfolding exactAfter pointsAfter
-  accepted-result exact points a e k exact′ points′ f g =
-      let t : answer rq (length exact) (length points) .count ≡ count = ap (λ (b : Answer). b .count) (sym e) ∙ k in
+  accepted-result age exact points a e k exact′ points′ f g =
+      let t : answer rq age (length exact) (length points) .count ≡ count = ap (λ (b : Answer). b .count) (sym e) ∙ k in
       record {
         answered = e;
         exact-is = f ∙ afterwards-same count _ (numerator rq) exact (λ R m. n .each R (omega arith)) ∙ ap (λ i. afterwards i (numerator rq) exact) (sym t);

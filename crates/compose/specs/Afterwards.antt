@@ -18,8 +18,8 @@ afterwards count f l = listBelow count f ++ drop count l
 
 -- "On refusal neither output array changes. On acceptance the first L+1 places of each are written and all later places
 -- stay." exact and points are the arrays as they were lent; their lengths are the rooms.
-unfoldable pub exactAfter : Request → List ℤ → List ℤ → List ℤ
-exactAfter rq exact points = afterwards (answer rq (length exact) (length points) .count) (numerator rq) exact
+unfoldable pub exactAfter : Request → ℕ → List ℤ → List ℤ → List ℤ
+exactAfter rq age exact points = afterwards (answer rq age (length exact) (length points) .count) (numerator rq) exact
 
-unfoldable pub pointsAfter : Request → List ℤ → List ℤ → List ℤ
-pointsAfter rq exact points = afterwards (answer rq (length exact) (length points) .count) (point rq) points
+unfoldable pub pointsAfter : Request → ℕ → List ℤ → List ℤ → List ℤ
+pointsAfter rq age exact points = afterwards (answer rq age (length exact) (length points) .count) (point rq) points

@@ -9,7 +9,7 @@ use lib.ListN.{length, replicate}
 use Rattle.whole.specs.Sum.{sumOver, sumTo}
 use Rattle.whole.specs.Choose.{choose}
 use Rattle.whole.specs.Round.{halfUp, onSideOf, nearest}
-use Rattle.units.specs.Bounds.{beyondTravel, beyondPath}
+use Rattle.units.specs.Bounds.{beyondTravel, beyondPath, stale}
 use Rattle.request.specs.declared.Answer.{Answer}
 use Rattle.request.specs.Head.{byForm, degree, longest, surfaceCount, pathCount, numbers}
 use Rattle.request.specs.Request.{Request}
@@ -100,17 +100,17 @@ rides =
 unfoldable pub mark : ℤ
 mark = below 7
 
--- what the definitions give for a ride: the answer and both arrays afterwards
+-- what the definitions give for a ride, on a tilt sample of age 0: the answer and both arrays afterwards
 unfoldable pub worked : Ride → Answer × List ℤ × List ℤ
 worked r =
     let room = length (r .points) + 1 in
     let lent = replicate room mark in
-    (answer (r .request) room room, exactAfter (r .request) lent lent, pointsAfter (r .request) lent lent)
+    (answer (r .request) 0 room room, exactAfter (r .request) 0 lent lent, pointsAfter (r .request) 0 lent lent)
 
 -- what document 01 says of it: accepted, with these numerators and these points, and the last place as it was
 unfoldable pub stated : Ride → Answer × List ℤ × List ℤ
 stated r = (record { number = 0; place = 0; count = length (r .points) }, r .numerators ++ (mark ∷ []), r .points ++ (mark ∷ []))
 
 pub as-stated : map worked rides ≡ map stated rides
-unfolding rides ride whole below curve tensor triangle mark worked stated exactAfter pointsAfter afterwards listBelow answer answerNumbers refused accepted least notKind notDegree notSurface notPath notRoom notValue notParameter notBalance valuePlace parameterPlace balancePlace beyondTravel beyondPath uneven isNumber byForm degree longest surfaceCount pathCount numbers rowStart placeOf netOf numberAt pathNumber step blossom overChoices total weight arguments numerator denominator point nearest onSideOf halfUp sumTo sumOver choose
+unfolding rides ride whole below curve tensor triangle mark worked stated exactAfter pointsAfter afterwards listBelow answer answerNumbers refused accepted least notKind notDegree notSurface notPath notRoom notValue notParameter notBalance valuePlace parameterPlace balancePlace beyondTravel beyondPath stale uneven isNumber byForm degree longest surfaceCount pathCount numbers rowStart placeOf netOf numberAt pathNumber step blossom overChoices total weight arguments numerator denominator point nearest onSideOf halfUp sumTo sumOver choose
 as-stated = refl

@@ -8,6 +8,7 @@ ghost use Rattle.compose.specs.Afterwards.{afterwards};
 ghost use Rattle.compose.specs.Contract.{requestOf, Composed, roundedAt, Roundable, AllRoundable};
 use request::Answer;
 use request::Head;
+use units::Age;
 use units::Travel;
 use whole::Num;
 
@@ -88,20 +89,21 @@ fn write_points(from: &[i64; 13], scale: u64, count: usize, points: &mut [i32])
     }
 }
 
-// Composes a surface and a path. The answer is a number, a place and a count: 0, 0, L+1 where the request is accepted, and
-// then the first L+1 places of both arrays are written; else the refusal's number and place and count 0, and both arrays
-// are as they were.
+// Composes a surface and a path, on a tilt sample of the given age. The answer is a number, a place and a count: 0, 0, L+1
+// where the request is accepted, and then the first L+1 places of both arrays are written; else the refusal's number and
+// place and count 0, and both arrays are as they were.
 pub fn compose(
     form: u32,
     first: u32,
     second: u32,
     N: u32,
+    age: Age,
     surface: &[i32],
     path: &[i32],
     exact: &mut [i64],
     points: &mut [i32],
 ) -> Answer
-    ensures { λ a. ⌜ Composed (requestOf form first second N (now (surface .entry)) (now (path .entry))) (now (exact .entry)) (now (points .entry)) a (now (exact .exit)) (now (points .exit)) ⌝ }
+    ensures { λ a. ⌜ Composed (requestOf form first second N (now (surface .entry)) (now (path .entry))) (age .0) (now (exact .entry)) (now (points .entry)) a (now (exact .exit)) (now (points .exit)) ⌝ }
 {
     let head = Head {
         form,
@@ -109,7 +111,7 @@ pub fn compose(
         second,
         N,
     };
-    let answer = request::judge(head, surface, path, exact.len(), points.len());
+    let answer = request::judge(head, age, surface, path, exact.len(), points.len());
     if answer.number != 0 {
         return answer;
     }

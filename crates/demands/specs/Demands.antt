@@ -16,7 +16,7 @@ use Rattle.request.specs.declared.Answer.{Answer}
 use Rattle.request.specs.Head.{degree, longest}
 use Rattle.request.specs.Request.{Request}
 use Rattle.request.specs.Refusal.{answer, accepted}
-use Rattle.request.specs.Order.{tests, first, placeFor}
+use Rattle.request.specs.Order.{tests, first, numbers, placeFor}
 use Rattle.request.proofs.Ordered.{ordered}
 use Rattle.net.specs.Composed.{numerator, denominator, point}
 use Rattle.net.specs.Reading.{drawn, surfaceRead}
@@ -34,23 +34,23 @@ pub record Result : Type 0 where
   pub exact : List ℤ
   pub points : List ℤ
 
--- the results that the contract allows, for a request and the two arrays as they were lent
-abbrev pub Allowed : Request → List ℤ → List ℤ → Result → Type 0
-Allowed rq exact points r = Composed rq exact points (r .answer) (r .exact) (r .points)
+-- the results that the contract allows, for a request, the age of the tilt sample and the two arrays as they were lent
+abbrev pub Allowed : Request → ℕ → List ℤ → List ℤ → Result → Type 0
+Allowed rq age exact points r = Composed rq age exact points (r .answer) (r .exact) (r .points)
 
 -- Determinacy. Any two results that the contract allows are equal (`any-two` of Rattle.whole.proofs.Determined).
-pub determined : (rq : Request) (exact points : List ℤ) → Determined (Allowed rq exact points)
-determined rq exact points = record {
-  value = record { answer = answer rq (length exact) (length points); exact = exactAfter rq exact points; points = pointsAfter rq exact points };
+pub determined : (rq : Request) (age : ℕ) (exact points : List ℤ) → Determined (Allowed rq age exact points)
+determined rq age exact points = record {
+  value = record { answer = answer rq age (length exact) (length points); exact = exactAfter rq age exact points; points = pointsAfter rq age exact points };
   only = λ r c. λ t. record { answer = c .answered t; exact = c .exact-is t; points = c .points-is t };
 }
 
 -- Demand 1. The composition ends (that is the checker's own promise of every function). The number is that of the first
--- of the eight tests that holds, in document 01's order, or 0; the place is the least bad index or point; a refusal's count
--- is 0 and it leaves both arrays as they were. (`first-exact` of Rattle.request.proofs.Ordered: number n exactly where test
--- n holds and none before it does.)
-pub record Demand1 (rq : Request) (exact points : List ℤ) (r : Result) : Type 0 where
-  pub number : r .answer .number ≡ first (tests rq (length exact) (length points))
+-- of the nine tests that holds, in the stated order, or 0; the place is the least bad index or point; a refusal's count
+-- is 0 and it leaves both arrays as they were. (`first-exact` of Rattle.request.proofs.Ordered: a number exactly where
+-- its test holds and none before it does.)
+pub record Demand1 (rq : Request) (age : ℕ) (exact points : List ℤ) (r : Result) : Type 0 where
+  pub number : r .answer .number ≡ getD numbers (first (tests rq age (length exact) (length points))) 0
   pub place : r .answer .place ≡ placeFor rq (r .answer .number)
   pub count : r .answer .count ≡ cond (eqb (r .answer .number) 0) (longest (rq .head) + 1) 0
   pub exact-kept : (r .answer .number ≡ 0 → ⊥) → r .exact ≡ exact
@@ -82,18 +82,18 @@ pub record Mirror (rq : Request) (r s : Result) : Type 0 where
   pub numerators : r .answer .number ≡ 0 → (R : ℕ) → R ≤ longest (rq .head) → getD (s .exact) R (pos 0) ≡ negℤ (getD (r .exact) R (pos 0))
   pub rounded : r .answer .number ≡ 0 → (R : ℕ) → R ≤ longest (rq .head) → getD (s .points) R (pos 0) ≡ negℤ (getD (r .points) R (pos 0))
 
-module _ (rq : Request) (exact points : List ℤ) (r : Result) (allowed : Allowed rq exact points r) where
+module _ (rq : Request) (age : ℕ) (exact points : List ℤ) (r : Result) (allowed : Allowed rq age exact points r) where
   abbrev count : ℕ
-  count = answer rq (length exact) (length points) .count
+  count = answer rq age (length exact) (length points) .count
 
   -- a refusal writes nothing
-  nothing : (f : ℕ → ℤ) (l : List ℤ) → (answer rq (length exact) (length points) .number ≡ 0 → ⊥) → afterwards count f l ≡ l
-  nothing f l refusal = rw (refused-none rq (length exact) (length points) refusal) (afterwards-none f l)
+  nothing : (f : ℕ → ℤ) (l : List ℤ) → (answer rq age (length exact) (length points) .number ≡ 0 → ⊥) → afterwards count f l ≡ l
+  nothing f l refusal = rw (refused-none rq age (length exact) (length points) refusal) (afterwards-none f l)
 
   -- an acceptance writes L + 1 places
   all : r .answer .number ≡ 0 → count ≡ longest (rq .head) + 1
   unfolding accepted
-  all e = ap (λ (a : Answer). a .count) (accepts rq (length exact) (length points) (ap (λ (a : Answer). a .number) (sym (allowed .answered)) ∙ e) .answered)
+  all e = ap (λ (a : Answer). a .count) (accepts rq age (length exact) (length points) (ap (λ (a : Answer). a .number) (sym (allowed .answered)) ∙ e) .answered)
 
   written : (f : ℕ → ℤ) (l : List ℤ) → r .answer .number ≡ 0 → (R : ℕ) → R ≤ longest (rq .head) → getD (afterwards count f l) R (pos 0) ≡ f R
   written f l e R m = let c = all e in afterwards-at count f l R (pos 0) (omega arith)
@@ -101,11 +101,11 @@ module _ (rq : Request) (exact points : List ℤ) (r : Result) (allowed : Allowe
   rest : (f : ℕ → ℤ) (l : List ℤ) → r .answer .number ≡ 0 → (R : ℕ) → longest (rq .head) < R → getD (afterwards count f l) R (pos 0) ≡ getD l R (pos 0)
   rest f l e R m = let c = all e in afterwards-past count f l R (pos 0) (omega arith)
 
-  pub demand1 : Demand1 rq exact points r
+  pub demand1 : Demand1 rq age exact points r
   unfolding exactAfter pointsAfter
   demand1 =
       let a = allowed .answered in
-      let o = ordered rq (length exact) (length points) in
+      let o = ordered rq age (length exact) (length points) in
       record {
         number = rw a (o .number);
         place = rw a (o .place);
@@ -125,16 +125,16 @@ module _ (rq : Request) (exact points : List ℤ) (r : Result) (allowed : Allowe
 
   pub demand3 : Demand3 rq exact points r
   demand3 = record {
-    within-half = λ e k q some m. rw (allowed .points-is) (at-every-moment rq exact points (ap (λ (a : Answer). a .number) (sym (allowed .answered)) ∙ e) k q m);
+    within-half = λ e k q some m. rw (allowed .points-is) (at-every-moment rq age exact points (ap (λ (a : Answer). a .number) (sym (allowed .answered)) ∙ e) k q m);
   }
 
-pub mirror : (rq : Request) (exact points : List ℤ) (r s : Result) → Allowed rq exact points r → Allowed (mirrored rq) exact points s → Mirror rq r s
+pub mirror : (rq : Request) (age : ℕ) (exact points : List ℤ) (r s : Result) → Allowed rq age exact points r → Allowed (mirrored rq) age exact points s → Mirror rq r s
 unfolding mirrored point denominator
-mirror rq exact points r s here there =
-    let same : s .answer ≡ r .answer = there .answered ∙ answer-mirrored rq (length exact) (length points) ∙ sym (here .answered) in
+mirror rq age exact points r s here there =
+    let same : s .answer ≡ r .answer = there .answered ∙ answer-mirrored rq age (length exact) (length points) ∙ sym (here .answered) in
     let number : r .answer .number ≡ 0 → s .answer .number ≡ 0 = λ e. ap (λ (a : Answer). a .number) same ∙ e in
-    let one = demand2 rq exact points r here in
-    let other = demand2 (mirrored rq) exact points s there in
+    let one = demand2 rq age exact points r here in
+    let other = demand2 (mirrored rq) age exact points s there in
     record {
       answer = same;
       numerators = λ e R m. other .numerators (number e) R m ∙ numerator-mirrored rq R ∙ ap negℤ (sym (one .numerators e R m));

@@ -1,24 +1,27 @@
 -- A request written as a record is read as that request, and the door answers it as the composer does. Assumes nothing.
-use mathlib.Core.Path.{_≡_, refl, ap, _∙_}
-use mathlib.Core.Bool.{false}
+use mathlib.Core.Path.{_≡_, refl, sym, ap, _∙_}
+use mathlib.Core.Bool.{Bool, true, false, cond}
 use mathlib.Core.List.{List, [], _++_, append-nil, append-assoc}
-use Prim.Native.Nat.{ℕ, _+_, _*_, _<_}
+use mathlib.Core.Option.{Option, none, some}
+use Prim.Native.Nat.{ℕ, _+_, _*_, _≤_, _<_}
 use native.Mathlib.Omega.{arith}
 use lib.IntN.{ℤ, pos}
 use lib.ListN.{length, length-append}
 use lib.Seq.{ext-getD}
 use borrow.Author.Tests.{le-ltb, eq-eqb}
+use Rattle.units.specs.Bounds.{stale}
 use Rattle.request.specs.Head.{surfaceCount, pathCount}
 use Rattle.request.specs.Request.{Request}
 use Rattle.request.specs.Refusal.{notKind, notDegree, answer}
+use Rattle.request.proofs.Verdict.{stale-refused as old}
 use Rattle.compose.specs.Afterwards.{listBelow}
 use Rattle.compose.proofs.Written.{below-at, below-length}
-use Rattle.door.specs.Bytes.{wordBytes, wordAt, numberBytes, numberAt}
-use Rattle.door.specs.Record.{start, requestKind, lengthField, kindField, recordStart, recordOf, headIn, pathStart, bodyEnd, requestIn, headBytes, requestRecord}
-use Rattle.door.specs.Judgement.{mostPoints, notFrame, judged}
+use Rattle.door.specs.Bytes.{all, wordBytes, wordAt, numberBytes, numberAt}
+use Rattle.door.specs.Record.{start, agedStart, requestKind, agedKind, lengthField, kindField, recordStart, recordOf, headIn, isAged, startIn, ageIn, pathStart, bodyEnd, requestIn, headBytes, kindOf, ageBytes, requestRecord}
+use Rattle.door.specs.Judgement.{mostPoints, notOfKind, notFrame, judged}
 use Rattle.door.specs.Parts.{AllShort}
 use Rattle.door.proofs.Numbers.{numbers-length, number-read}
-use Rattle.door.proofs.Order.{to-composer, body-fits}
+use Rattle.door.proofs.Order.{stale-refused, to-composer, body-fits}
 
 -- numbers that were written are read again, all of them
 numbers-read : (before : List ℕ) (l : List ℤ) (rest : List ℕ) → AllShort l → listBelow (length l) (numberAt (before ++ (numberBytes l ++ rest)) (length before)) ≡ l
@@ -27,41 +30,74 @@ numbers-read before l rest s =
     ext-getD (pos 0) (listBelow (length l) f) l (below-length (length l) f)
     (λ i m. let k : i < length l = rw (below-length (length l) f) at m in (rw append-nil at (below-at (length l) f [] i (pos 0) k)) ∙ number-read before l rest i k (s .each i k))
 
+at-least : (b : Bool) → start ≤ cond b agedStart start
+at-least true = omega arith
+at-least false = omega arith
+
+-- an age, where there is one, fits two bytes; and where there is none it counts as 0
+abbrev pub Fits : Option ℕ → Type 0
+Fits none = Unit {0}
+Fits (some age) = age < all
+
+abbrev pub milliseconds : Option ℕ → ℕ
+milliseconds none = 0
+milliseconds (some age) = age
+
 -- the bytes before the control values
-firstEight : Request → List ℕ
-firstEight rq =
-    recordStart (4 + length (headBytes (rq .head) ++ (numberBytes (rq .surface) ++ numberBytes (rq .path)))) requestKind ++ headBytes (rq .head)
+front : Request → Option ℕ → List ℕ
+front rq age =
+    recordStart (4 + length (headBytes (rq .head) ++ (ageBytes age ++ (numberBytes (rq .surface) ++ numberBytes (rq .path))))) (kindOf age)
+    ++ (headBytes (rq .head) ++ ageBytes age)
 
 module _ (rq : Request) where
-  by-surface : requestRecord rq ≡ firstEight rq ++ (numberBytes (rq .surface) ++ numberBytes (rq .path))
-  unfolding firstEight requestRecord recordOf recordStart wordBytes headBytes
-  by-surface = refl
+  by-surface : (age : Option ℕ) → requestRecord rq age ≡ front rq age ++ (numberBytes (rq .surface) ++ numberBytes (rq .path))
+  unfolding front requestRecord recordOf recordStart wordBytes headBytes ageBytes
+  by-surface none = refl
+  by-surface (some age) = refl
 
-  by-path : requestRecord rq ≡ firstEight rq ++ numberBytes (rq .surface) ++ (numberBytes (rq .path) ++ [])
-  by-path = by-surface ∙ rw (append-nil, append-assoc)
+  by-path : (age : Option ℕ) → requestRecord rq age ≡ front rq age ++ numberBytes (rq .surface) ++ (numberBytes (rq .path) ++ [])
+  by-path age = by-surface age ∙ rw (append-nil, append-assoc)
 
-  eight : length (firstEight rq) ≡ start
-  unfolding firstEight recordStart wordBytes headBytes
-  eight = refl
+  kind-is : (age : Option ℕ) → kindField (requestRecord rq age) ≡ kindOf age
+  unfolding kindField wordAt requestRecord recordOf recordStart wordBytes kindOf
+  kind-is none = refl
+  kind-is (some age) = refl
 
-  head-is : headIn (requestRecord rq) ≡ rq .head
+  starts : (age : Option ℕ) → startIn (requestRecord rq age) ≡ length (front rq age)
+  unfolding startIn isAged front recordStart wordBytes headBytes ageBytes kindOf
+  starts none = rw (kind-is none)
+  starts (some age) = rw (kind-is (some age))
+
+  age-is : (age : Option ℕ) → Fits age → ageIn (requestRecord rq age) ≡ milliseconds age
+  unfolding ageIn isAged kindOf wordAt requestRecord recordOf recordStart wordBytes headBytes ageBytes
+  age-is none m = rw (kind-is none)
+  age-is (some age) m = rw (kind-is (some age)) (omega arith)
+
+  head-is : (age : Option ℕ) → headIn (requestRecord rq age) ≡ rq .head
   unfolding headIn requestRecord recordOf recordStart wordBytes headBytes
-  head-is = refl
+  head-is age = refl
 
-  record-length : length (requestRecord rq) ≡ start + 2 * length (rq .surface) + 2 * length (rq .path)
-  record-length = ap length by-surface ∙ rw (length-append, length-append, eight, numbers-length (rq .surface), numbers-length (rq .path)) (omega arith)
+  record-length : (age : Option ℕ) → length (requestRecord rq age) ≡ startIn (requestRecord rq age) + 2 * length (rq .surface) + 2 * length (rq .path)
+  record-length age = ap length (by-surface age) ∙ rw (length-append, length-append, starts age, numbers-length (rq .surface), numbers-length (rq .path)) (omega arith)
 
-  length-is : lengthField (requestRecord rq) ≡ length (requestRecord rq)
+  long : (age : Option ℕ) → start ≤ startIn (requestRecord rq age)
+  unfolding startIn
+  long age = at-least (isAged (requestRecord rq age))
+
+  length-is : (age : Option ℕ) → lengthField (requestRecord rq age) ≡ length (requestRecord rq age)
   unfolding lengthField wordAt requestRecord recordOf recordStart wordBytes
-  length-is = omega arith
+  length-is age = omega arith
 
-  kind-is : kindField (requestRecord rq) ≡ requestKind
-  unfolding kindField wordAt requestRecord recordOf recordStart wordBytes
-  kind-is = refl
+  of-kind : (age : Option ℕ) → notOfKind (requestRecord rq age) ≡ false
+  unfolding notOfKind isAged kindOf startIn
+  of-kind none = rw (kind-is none)
+  of-kind (some age) =
+      let here : startIn (requestRecord rq (some age)) ≡ agedStart = rw (kind-is (some age)) in
+      rw (kind-is (some age)) (le-ltb (length (requestRecord rq (some age))) agedStart (omega (arith, record-length (some age), here)))
 
-  framed : notFrame (requestRecord rq) ≡ false
+  framed : (age : Option ℕ) → notFrame (requestRecord rq age) ≡ false
   unfolding notFrame
-  framed = rw (le-ltb (length (requestRecord rq)) start (omega (arith, record-length)), eq-eqb _ _ length-is, kind-is)
+  framed age = rw (le-ltb (length (requestRecord rq age)) start (omega (arith, record-length age, long age)), eq-eqb _ _ (length-is age), of-kind age)
 
 -- a request that a record can hold: its form and degrees are document 01's, and so are its counts
 pub record Askable (rq : Request) : Type 0 where
@@ -72,26 +108,32 @@ pub record Askable (rq : Request) : Type 0 where
   pub values : AllShort (rq .surface)
   pub numbers : AllShort (rq .path)
 
-module _ (rq : Request) (ok : Askable rq) where
-  surface-got : listBelow (surfaceCount (rq .head)) (numberAt (requestRecord rq) start) ≡ rq .surface
-  surface-got = rw (← ok .surface-is, by-surface rq, ← eight rq) (numbers-read (firstEight rq) (rq .surface) (numberBytes (rq .path)) (ok .values))
+module _ (rq : Request) (age : Option ℕ) (ok : Askable rq) where
+  surface-got : listBelow (surfaceCount (rq .head)) (numberAt (requestRecord rq age) (startIn (requestRecord rq age))) ≡ rq .surface
+  surface-got = rw (starts rq age, ← ok .surface-is, by-surface rq age) (numbers-read (front rq age) (rq .surface) (numberBytes (rq .path)) (ok .values))
 
-  path-starts : pathStart (rq .head) ≡ length (firstEight rq ++ numberBytes (rq .surface))
+  path-starts : pathStart (startIn (requestRecord rq age)) (rq .head) ≡ length (front rq age ++ numberBytes (rq .surface))
   unfolding pathStart
-  path-starts = rw (length-append, eight rq, numbers-length, ok .surface-is)
+  path-starts = rw (length-append, starts rq age, numbers-length, ok .surface-is)
 
-  path-got : listBelow (pathCount (rq .head)) (numberAt (requestRecord rq) (pathStart (rq .head))) ≡ rq .path
-  path-got = rw (← ok .path-is, by-path rq, path-starts) (numbers-read (firstEight rq ++ numberBytes (rq .surface)) (rq .path) [] (ok .numbers))
+  path-got : listBelow (pathCount (rq .head)) (numberAt (requestRecord rq age) (pathStart (startIn (requestRecord rq age)) (rq .head))) ≡ rq .path
+  path-got = rw (path-starts, ← ok .path-is, by-path rq age) (numbers-read (front rq age ++ numberBytes (rq .surface)) (rq .path) [] (ok .numbers))
 
-  pub read-again : requestIn (requestRecord rq) ≡ rq
+  pub read-again : requestIn (requestRecord rq age) ≡ rq
   unfolding requestIn
-  read-again = rw (head-is rq, surface-got, path-got)
+  read-again = rw (head-is rq age, surface-got, path-got)
 
-  body-end : length (requestRecord rq) ≡ bodyEnd (headIn (requestRecord rq))
+  body-end : length (requestRecord rq age) ≡ bodyEnd (startIn (requestRecord rq age)) (headIn (requestRecord rq age))
   unfolding bodyEnd pathStart
-  body-end = rw (head-is rq, ← ok .surface-is, ← ok .path-is) (record-length rq)
+  body-end = rw (head-is rq age, ← ok .surface-is, ← ok .path-is) (record-length rq age)
 
-  pub answered-alike : judged (requestRecord rq) ≡ answer rq mostPoints mostPoints
-  answered-alike =
-      to-composer (requestRecord rq) (record { frame = framed rq; kind = rw (head-is rq) (ok .kind); degrees = rw (head-is rq) (ok .degrees); body = body-fits _ body-end })
-      ∙ rw read-again
+  -- a stale sample is refused by the door as it is by the composer
+  pub answered-alike : Fits age → judged (requestRecord rq age) ≡ answer rq (milliseconds age) mostPoints mostPoints
+  answered-alike m =
+      let kind : notKind (headIn (requestRecord rq age)) ≡ false = rw (head-is rq age) (ok .kind) in
+      let degrees : notDegree (headIn (requestRecord rq age)) ≡ false = rw (head-is rq age) (ok .degrees) in
+      let go : (b : Bool) → stale (milliseconds age) ≡ b → judged (requestRecord rq age) ≡ answer rq (milliseconds age) mostPoints mostPoints = λ b. elim b [
+        | true ↦ λ o. stale-refused (requestRecord rq age) (framed rq age) kind degrees (ap stale (age-is rq age m) ∙ o) ∙ sym (old rq (milliseconds age) mostPoints mostPoints (ok .kind) (ok .degrees) o)
+        | false ↦ λ o. to-composer (requestRecord rq age) (record { frame = framed rq age; kind = kind; degrees = degrees; fresh = ap stale (age-is rq age m) ∙ o; body = body-fits _ body-end }) ∙ rw (read-again, age-is rq age m)
+      ] in
+      go (stale (milliseconds age)) refl

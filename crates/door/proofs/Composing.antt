@@ -14,7 +14,7 @@ use Rattle.compose.specs.Afterwards.{listBelow, afterwards, pointsAfter}
 use Rattle.compose.specs.Contract.{requestOf, Composed}
 use Rattle.compose.proofs.Written.{below-length}
 use Rattle.door.specs.Bytes.{numberAt}
-use Rattle.door.specs.Record.{start, headIn, pathStart, requestIn}
+use Rattle.door.specs.Record.{headIn, startIn, ageIn, pathStart, requestIn}
 use Rattle.door.specs.Judgement.{mostPoints}
 use Rattle.door.specs.Parts.{Given}
 
@@ -24,18 +24,18 @@ unfolding afterwards
 first-places count f lent = take-at (listBelow count f) _ count (below-length count f)
 
 -- the composer is given the request of the record
-pub request-read : (request : List ℕ) (head : Head) (s p : ℕ) (surface path surface′ path′ : List ℤ) → head ≡ headIn request → s ≡ surfaceCount head
-    → p ≡ pathCount head → surface′ ≡ afterwards s (numberAt request start) surface → path′ ≡ afterwards p (numberAt request (start + 2 * s)) path
+pub request-read : (request : List ℕ) (from : ℕ) (head : Head) (s p : ℕ) (surface path surface′ path′ : List ℤ) → from ≡ startIn request → head ≡ headIn request → s ≡ surfaceCount head
+    → p ≡ pathCount head → surface′ ≡ afterwards s (numberAt request from) surface → path′ ≡ afterwards p (numberAt request (from + 2 * s)) path
     → requestOf (head .form) (head .first) (head .second) (head .N) (take s surface′) (take p path′) ≡ requestIn request
 unfolding requestOf requestIn pathStart
-request-read request head s p surface path surface′ path′ h es ep f g = rw (f, g, first-places s _ surface, first-places p _ path, es, ep, h)
+request-read request from head s p surface path surface′ path′ b h es ep f g = rw (f, g, first-places s _ surface, first-places p _ path, es, ep, b, h)
 
 -- what it answers and leaves in the points is what the door answers and sends
-pub composed-given : (request : List ℕ) (rq : Request) (exact points exact′ points′ : List ℤ) (a : Answer) → rq ≡ requestIn request
-    → length exact ≡ mostPoints → length points ≡ mostPoints → Composed rq exact points a exact′ points′
-    → Given request (answer (requestIn request) mostPoints mostPoints) points a points′
+pub composed-given : (request : List ℕ) (rq : Request) (age : ℕ) (exact points exact′ points′ : List ℤ) (a : Answer) → rq ≡ requestIn request → age ≡ ageIn request
+    → length exact ≡ mostPoints → length points ≡ mostPoints → Composed rq age exact points a exact′ points′
+    → Given request (answer (requestIn request) (ageIn request) mostPoints mostPoints) points a points′
 unfolding pointsAfter
-composed-given request rq exact points exact′ points′ a e l m k = record {
-  answered = rw (← e) (rw (l, m) at (k .answered));
-  points-is = rw (← e) (rw (l, m) at (k .points-is));
+composed-given request rq age exact points exact′ points′ a e o l m k = record {
+  answered = rw (← e, ← o) (rw (l, m) at (k .answered));
+  points-is = rw (← e, ← o) (rw (l, m) at (k .points-is));
 }

@@ -15,7 +15,7 @@ use Rattle.request.specs.Refusal.{refused, accepted, answer, answerNumbers, not
 use Rattle.request.proofs.Verdict.{to-numbers}
 use Rattle.net.specs.Composed.{point}
 use Rattle.door.specs.Bytes.{Short, wordAt, wordBytes, numberBytes, numberAt}
-use Rattle.door.specs.Record.{start, replyKind, lengthField, kindField, recordStart, recordOf, headIn, answerBytes, requestIn, replyRecord}
+use Rattle.door.specs.Record.{start, replyKind, lengthField, kindField, recordStart, recordOf, headIn, ageIn, answerBytes, requestIn, replyRecord}
 use Rattle.door.specs.Judgement.{mostPoints, judged}
 use Rattle.door.specs.Contract.{pointsOf, replyOf, over, room, Answered}
 use Rattle.door.proofs.Numbers.{number-read}
@@ -120,12 +120,12 @@ last-three rq =
     (other 0 tt)))
 
 -- where no test of the door holds, only the composer's last three are left
-pub last-word : (request : List ℕ) → Passed request → answer (requestIn request) mostPoints mostPoints ≡ answerNumbers (requestIn request)
+pub last-word : (request : List ℕ) → Passed request → answer (requestIn request) (ageIn request) mostPoints mostPoints ≡ answerNumbers (requestIn request)
 unfolding requestIn
 last-word request ok =
     let L = longest-most (headIn request) (ok .degrees) in
-    to-numbers (requestIn request) mostPoints mostPoints (ok .kind) (ok .degrees) (surface-read request) (path-read request) (omega arith) (omega arith)
+    to-numbers (requestIn request) (ageIn request) mostPoints mostPoints (ok .kind) (ok .degrees) (ok .fresh) (surface-read request) (path-read request) (omega arith) (omega arith)
 
 pub never : (request : List ℕ) → Never (judged request .number)
 unfolding refused
-never request = judged-is request (λ a. Never (a .number)) (other 9 tt) (other 1 tt) (other 2 tt) (λ ok. rw (last-word request ok) (last-three (requestIn request)))
+never request = judged-is request (λ a. Never (a .number)) (other 9 tt) (other 1 tt) (other 2 tt) (other 10 tt) (λ ok. rw (last-word request ok) (last-three (requestIn request)))

@@ -8,6 +8,7 @@ use native.Mathlib.Decide.{ℕ-discrete}
 use native.Mathlib.Omega.{arith}
 use lib.IntN.{ℤ, pos, negsuc, natAbs}
 use lib.ListN.{length, getD, take}
+use Rattle.units.specs.Bounds.{stale}
 use Rattle.request.specs.declared.Answer.{Answer}
 use Rattle.request.specs.declared.Head.{Head}
 use Rattle.request.specs.Head.{longest, surfaceCount, pathCount}
@@ -21,7 +22,7 @@ use Rattle.compose.proofs.Written.{below-at, below-length}
 use Rattle.compose.proofs.Acceptance.{accepts, refused-none}
 use Rattle.compose.proofs.Entry.{composable}
 use Rattle.door.specs.Bytes.{Short}
-use Rattle.door.specs.Record.{headIn, requestIn}
+use Rattle.door.specs.Record.{headIn, ageIn, requestIn}
 use Rattle.door.specs.Judgement.{mostPoints, judged}
 use Rattle.door.specs.Contract.{pointsOf}
 use Rattle.door.specs.Parts.{Given, InBytes, Sendable}
@@ -47,18 +48,19 @@ module _ (rq : Request) (d : notDegree (rq .head) ≡ false) (s : length (rq .su
   unfolding accepted
   accepted-fits = record { number-fits = omega arith; place-fits = omega arith; few = omega (arith, longest-most (rq .head) d) }
 
-  composer-fits : (e q : ℕ) → InBytes (answer rq e q)
+  composer-fits : (age e q : ℕ) → InBytes (answer rq age e q)
   unfolding answer answerNumbers
-  composer-fits e q =
+  composer-fits age e q =
       either (notKind (rq .head)) 1 0 _ (omega arith) (omega arith)
       (either (notDegree (rq .head)) 2 0 _ (omega arith) (omega arith)
+      (either (stale age) 10 0 _ (omega arith) (omega arith)
       (either (notSurface rq) 3 0 _ (omega arith) (omega arith)
       (either (notPath rq) 4 0 _ (omega arith) (omega arith)
       (either (notRoom (rq .head) e q) 5 0 _ (omega arith) (omega arith)
       (either (notValue rq) 6 (valuePlace (rq .surface)) _ (omega arith) (omega (arith, value-most (rq .surface)))
       (either (notParameter rq) 7 (parameterPlace (rq .path)) _ (omega arith) (omega (arith, parameter-most (rq .path)))
       (either (notBalance rq) 8 (balancePlace (rq .path) (rq .head .N)) _ (omega arith) (omega (arith, balance-most (rq .path) (rq .head .N), small (rq .head) d .N-most))
-      accepted-fits)))))))
+      accepted-fits))))))))
 
 -- as many numbers as the head asks for
 pub surface-read : (request : List ℕ) → length (requestIn request .surface) ≡ surfaceCount (headIn request)
@@ -69,34 +71,34 @@ pub path-read : (request : List ℕ) → length (requestIn request .path) ≡ pa
 unfolding requestIn
 path-read request = below-length _ _
 
-passed-fits : (request : List ℕ) → Passed request → InBytes (answer (requestIn request) mostPoints mostPoints)
+passed-fits : (request : List ℕ) → Passed request → InBytes (answer (requestIn request) (ageIn request) mostPoints mostPoints)
 unfolding requestIn
 passed-fits request ok =
     composer-fits (requestIn request) (ok .degrees)
     (omega (arith, surface-read request, surface-most (headIn request) (ok .degrees)))
     (omega (arith, path-read request, path-most (headIn request) (ok .degrees)))
-    mostPoints mostPoints
+    (ageIn request) mostPoints mostPoints
 
 pub judged-fits : (request : List ℕ) → InBytes (judged request)
 judged-fits request =
-    judged-is request InBytes (refusal-fits 9 0 (omega arith) (omega arith)) (refusal-fits 1 0 (omega arith) (omega arith)) (refusal-fits 2 0 (omega arith) (omega arith))
+    judged-is request InBytes (refusal-fits 9 0 (omega arith) (omega arith)) (refusal-fits 1 0 (omega arith) (omega arith)) (refusal-fits 2 0 (omega arith) (omega arith)) (refusal-fits 10 0 (omega arith) (omega arith))
     (passed-fits request)
 
 -- ---- the points
-composer-point : (rq : Request) (e q R : ℕ) → R < answer rq e q .count → natAbs (point rq R) ≤ 4096
+composer-point : (rq : Request) (age e q R : ℕ) → R < answer rq age e q .count → natAbs (point rq R) ≤ 4096
 unfolding accepted
-composer-point rq e q R m = go (ℕ-discrete (answer rq e q .number) 0)
+composer-point rq age e q R m = go (ℕ-discrete (answer rq age e q .number) 0)
   where
-    go : Dec (answer rq e q .number ≡ 0) → natAbs (point rq R) ≤ 4096
-    go (yes z) = let f = accepts rq e q z in point-size rq (composable rq e q f) R (omega (arith, ap (λ (a : Answer). a .count) (f .answered)))
-    go (no n) = absurd (omega (arith, refused-none rq e q n))
+    go : Dec (answer rq age e q .number ≡ 0) → natAbs (point rq R) ≤ 4096
+    go (yes z) = let f = accepts rq age e q z in point-size rq (composable rq age e q f) R (omega (arith, ap (λ (a : Answer). a .count) (f .answered)))
+    go (no n) = absurd (omega (arith, refused-none rq age e q n))
 
 -- no point is above the greatest travel
 pub point-most : (request : List ℕ) (R : ℕ) → R < judged request .count → natAbs (point (requestIn request) R) ≤ 4096
 unfolding refused
 point-most request R =
-    judged-is request (λ a. R < a .count → natAbs (point (requestIn request) R) ≤ 4096) (λ m. absurd (omega arith)) (λ m. absurd (omega arith)) (λ m. absurd (omega arith))
-    (λ ok. composer-point (requestIn request) mostPoints mostPoints R)
+    judged-is request (λ a. R < a .count → natAbs (point (requestIn request) R) ≤ 4096) (λ m. absurd (omega arith)) (λ m. absurd (omega arith)) (λ m. absurd (omega arith)) (λ m. absurd (omega arith))
+    (λ ok. composer-point (requestIn request) (ageIn request) mostPoints mostPoints R)
 
 short : (z : ℤ) → natAbs z ≤ 4096 → Short z
 short (pos n) m = omega arith

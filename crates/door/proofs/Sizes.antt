@@ -1,6 +1,7 @@
 -- How large a request's counts are where DEGREE lets it pass: what the door's own arrays hold. Assumes nothing.
 use mathlib.Core.Path.{_≡_}
 use mathlib.Core.Bool.{Bool, true, false, cond}
+use mathlib.Core.List.{List}
 use Prim.Native.Nat.{ℕ, zero, suc, _+_, _*_, _/_, _≤_}
 use native.Mathlib.Nat.{mul-le-mul}
 use native.Mathlib.Omega.{arith}
@@ -9,6 +10,7 @@ use Rattle.request.specs.declared.Head.{Head}
 use Rattle.request.specs.Head.{byForm, surfaceCount, pathCount, numbers}
 use Rattle.request.specs.Refusal.{notDegree}
 use Rattle.request.proofs.Forms.{small}
+use Rattle.door.specs.Record.{start, agedStart, isAged, startIn}
 
 tensor-most : (l m : ℕ) → l + m ≤ 4 → (l + 1) * (m + 1) ≤ 15
 tensor-most zero m h = omega arith
@@ -35,6 +37,15 @@ each-form h x y z most p q r = go (eqb (h .form) 1) (eqb (h .form) 2)
     go true b = p
     go false true = q
     go false false = r
+
+-- an age or none before the numbers
+pub start-most : (request : List ℕ) → startIn request ≤ agedStart
+unfolding startIn
+start-most request = go (isAged request)
+  where
+    go : (b : Bool) → cond b agedStart start ≤ agedStart
+    go true = omega arith
+    go false = omega arith
 
 module _ (h : Head) (d : notDegree h ≡ false) where
   pub surface-most : surfaceCount h ≤ 15

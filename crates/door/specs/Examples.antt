@@ -1,4 +1,5 @@
--- Records worked through the definitions: document 01's P1 and P2 as bytes, and each way to be refused at the door.
+-- Records worked through the definitions: document 01's P1 and P2 as bytes, an age at its bound, and each way to be refused
+-- at the door.
 -- Assumes nothing.
 use mathlib.Core.Path.{_≡_, refl}
 use mathlib.Core.List.{List, [], _∷_, map}
@@ -6,7 +7,7 @@ use Prim.Native.Nat.{ℕ}
 use Rattle.whole.specs.Sum.{sumOver, sumTo}
 use Rattle.whole.specs.Choose.{choose}
 use Rattle.whole.specs.Round.{nearest, onSideOf, halfUp}
-use Rattle.units.specs.Bounds.{beyondTravel, beyondPath}
+use Rattle.units.specs.Bounds.{beyondTravel, beyondPath, stale}
 use Rattle.request.specs.Head.{byForm, degree, longest, surfaceCount, pathCount, numbers}
 use Rattle.request.specs.Refusal.{answer, answerNumbers, refused, accepted, least, notKind, notDegree, notSurface, notPath, notRoom, notValue, notParameter, notBalance, valuePlace, parameterPlace, balancePlace, uneven, isNumber}
 use Rattle.net.specs.Net.{rowStart, placeOf, netOf, numberAt as pathNumberAt, pathNumber}
@@ -14,8 +15,8 @@ use Rattle.net.specs.Blossom.{step, blossom}
 use Rattle.net.specs.Composed.{overChoices, total, weight, arguments, numerator, denominator, point}
 use Rattle.compose.specs.Afterwards.{listBelow}
 use Rattle.door.specs.Bytes.{wordBytes, wordAt, unsigned, signed, numberBytes, numberAt}
-use Rattle.door.specs.Record.{lengthField, kindField, recordStart, recordOf, headIn, pathStart, bodyEnd, requestIn, answerBytes, replyRecord}
-use Rattle.door.specs.Judgement.{notFrame, notBody, tests, inOrder, judged}
+use Rattle.door.specs.Record.{lengthField, kindField, recordStart, recordOf, headIn, isAged, startIn, ageIn, pathStart, bodyEnd, requestIn, answerBytes, replyRecord}
+use Rattle.door.specs.Judgement.{notOfKind, notFrame, notBody, tests, inOrder, judged}
 use Rattle.door.specs.Contract.{pointsOf, replyOf}
 
 pub record Exchange : Type 0 where
@@ -61,8 +62,17 @@ exchanges =
       request = 16 ∷ 0 ∷ 1 ∷ 0 ∷ 3 ∷ 0 ∷ 0 ∷ 0 ∷ 7 ∷ 0 ∷ 0 ∷ 2 ∷ 0 ∷ 1 ∷ 255 ∷ 0 ∷ [];
       reply = refusalBytes 8 0;
     }
+    -- kind 0x0002, age 250 in two bytes after N: the value 7 over a path of 0
+    ∷ record { request = 14 ∷ 0 ∷ 2 ∷ 0 ∷ 1 ∷ 0 ∷ 0 ∷ 0 ∷ 250 ∷ 0 ∷ 7 ∷ 0 ∷ 0 ∷ 0 ∷ []; reply = 10 ∷ 0 ∷ 0x01 ∷ 0x80 ∷ 0 ∷ 0 ∷ 1 ∷ 0 ∷ 7 ∷ 0 ∷ [] }
+    -- STALE: 251, and 256 by its high byte; before the body's length
+    ∷ record { request = 14 ∷ 0 ∷ 2 ∷ 0 ∷ 1 ∷ 0 ∷ 0 ∷ 0 ∷ 251 ∷ 0 ∷ 7 ∷ 0 ∷ 0 ∷ 0 ∷ []; reply = refusalBytes 10 0 }
+    ∷ record { request = 10 ∷ 0 ∷ 2 ∷ 0 ∷ 1 ∷ 0 ∷ 0 ∷ 0 ∷ 0 ∷ 1 ∷ []; reply = refusalBytes 10 0 }
+    -- DEGREE before STALE; FRAME: a body that is missing; FRAME: nine bytes, before the form
+    ∷ record { request = 10 ∷ 0 ∷ 2 ∷ 0 ∷ 1 ∷ 5 ∷ 0 ∷ 0 ∷ 0 ∷ 1 ∷ []; reply = refusalBytes 2 0 }
+    ∷ record { request = 10 ∷ 0 ∷ 2 ∷ 0 ∷ 1 ∷ 0 ∷ 0 ∷ 0 ∷ 250 ∷ 0 ∷ []; reply = refusalBytes 9 0 }
+    ∷ record { request = 9 ∷ 0 ∷ 2 ∷ 0 ∷ 9 ∷ 9 ∷ 9 ∷ 9 ∷ 9 ∷ []; reply = refusalBytes 9 0 }
     ∷ []
 
 pub as-stated : map (λ (e : Exchange). replyOf (e .request)) exchanges ≡ map (λ (e : Exchange). e .reply) exchanges
-unfolding refusalBytes exchanges wordBytes wordAt unsigned signed numberBytes numberAt lengthField kindField recordStart recordOf headIn pathStart bodyEnd requestIn answerBytes replyRecord notFrame notBody tests inOrder judged pointsOf replyOf listBelow answer answerNumbers refused accepted least notKind notDegree notSurface notPath notRoom notValue notParameter notBalance valuePlace parameterPlace balancePlace beyondTravel beyondPath uneven isNumber byForm degree longest surfaceCount pathCount numbers rowStart placeOf netOf pathNumberAt pathNumber step blossom overChoices total weight arguments numerator denominator point nearest onSideOf halfUp sumTo sumOver choose
+unfolding refusalBytes exchanges wordBytes wordAt unsigned signed numberBytes numberAt lengthField kindField recordStart recordOf headIn isAged startIn ageIn pathStart bodyEnd requestIn answerBytes replyRecord notOfKind notFrame notBody tests inOrder judged pointsOf replyOf listBelow answer answerNumbers refused accepted least notKind notDegree notSurface notPath notRoom notValue notParameter notBalance valuePlace parameterPlace balancePlace beyondTravel beyondPath stale uneven isNumber byForm degree longest surfaceCount pathCount numbers rowStart placeOf netOf pathNumberAt pathNumber step blossom overChoices total weight arguments numerator denominator point nearest onSideOf halfUp sumTo sumOver choose
 as-stated = refl

@@ -11,17 +11,19 @@ use Rattle.request.specs.Refusal.{notDegree}
 use Rattle.net.specs.Composed.{point}
 use Rattle.compose.specs.Afterwards.{afterwards}
 use Rattle.door.specs.Bytes.{Short}
-use Rattle.door.specs.Record.{headIn, bodyEnd, requestIn}
+use Rattle.door.specs.Record.{headIn, startIn, ageIn, bodyEnd, requestIn}
 use Rattle.door.specs.Judgement.{mostPoints}
 
 pub record AllShort (numbers : List ℤ) : Type 0 where
   pub each : (k : ℕ) → k < length numbers → Short (getD numbers k (pos 0))
 
--- a record whose degrees and length are right, with its head
-pub record Whole (request : List ℕ) (head : Head) : Type 0 where
+-- a record whose degrees and length are right, with the byte at which its numbers begin, its head and its age
+pub record Whole (request : List ℕ) (from : ℕ) (head : Head) (age : ℕ) : Type 0 where
+  pub from-is : from ≡ startIn request
+  pub age-is : age ≡ ageIn request
   pub head-is : head ≡ headIn request
   pub small : notDegree head ≡ false
-  pub long : length request ≡ bodyEnd head
+  pub long : length request ≡ bodyEnd from head
 
 -- an answer, and the points of a request in the places that were lent
 pub record Given (request : List ℕ) (is : Answer) (points : List ℤ) (a : Answer) (points′ : List ℤ) : Type 0 where

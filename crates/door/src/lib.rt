@@ -8,20 +8,26 @@ ghost use lib.ListN.{length, set};
 ghost use Rattle.request.specs.Refusal.{notDegree, refused, answer};
 ghost use Rattle.compose.specs.Afterwards.{afterwards};
 ghost use Rattle.door.specs.Bytes.{all, Short, wordAt, unsigned, signed, numberBytes, numberAt};
-ghost use Rattle.door.specs.Record.{start, replyKind, recordStart, headIn, bodyEnd, requestIn, answerBytes, replyRecord};
+ghost use Rattle.door.specs.Record.{start, replyKind, recordStart, headIn, isAged, agedStart, startIn, ageIn, bodyEnd, requestIn, answerBytes, replyRecord};
 ghost use Rattle.door.specs.Judgement.{mostPoints, notFrame, judged};
 ghost use Rattle.door.specs.Contract.{over, room, Answered};
 ghost use Rattle.door.specs.Parts.{AllShort, Whole, Given, InBytes, Sendable};
 use request::Answer;
 use request::Head;
+use units::Age;
 use whole::Num;
 
-// The kinds of the two records, and where a record's numbers begin.
+// The kinds of a request, without and with the age of its tilt sample, and of a reply.
 const REQUEST_KIND: u64 = 0x0001;
+
+const AGED_KIND: u64 = 0x0002;
 
 const REPLY_KIND: u64 = 0x8001;
 
+// Where a record's numbers begin, and where they do behind an age.
 const START: usize = 8;
+
+const AGED_START: usize = 10;
 
 // As many control values, path numbers and points as the greatest degrees ask for.
 const MOST_VALUES: usize = 15;
@@ -130,7 +136,11 @@ fn not_frame(request: &[u8]) -> bool
     if word_at(request, 0) != request.len() as u64 {
         return true;
     }
-    word_at(request, 2) != REQUEST_KIND
+    let kind = word_at(request, 2);
+    if kind == AGED_KIND {
+        return request.len() < AGED_START;
+    }
+    kind != REQUEST_KIND
 }
 
 fn head_in(request: &[u8]) -> Head
@@ -145,31 +155,59 @@ fn head_in(request: &[u8]) -> Head
     }
 }
 
-// How long the head says that the record is.
-fn body_end(head: Head) -> usize
-    requires { ⌜ notDegree head ≡ false ⌝ }
-    ensures { λ r. ⌜ r ≡ bodyEnd head ⌝ }
+// Whether a record that is long enough carries an age.
+fn is_aged(request: &[u8]) -> bool
+    requires { ⌜ start ≤ length (now request) ⌝ }
+    ensures { λ r. ⌜ r ≡ isAged (now (request .entry)) ⌝ }
 {
-    START + 2 * request::surface_count(head) + 2 * request::path_count(head)
+    word_at(request, 2) == AGED_KIND
+}
+
+// Where the numbers of a request begin.
+fn start_in(request: &[u8]) -> usize
+    requires { ⌜ start ≤ length (now request) ⌝ }
+    ensures { λ r. ⌜ r ≡ startIn (now (request .entry)) ⌝ }
+{
+    if is_aged(request) { AGED_START } else { START }
+}
+
+// The age of a request's tilt sample, or 0 where it carries none.
+fn age_in(request: &[u8]) -> Age
+    requires { ⌜ (start ≤ length (now request)) × (startIn (now request) ≤ length (now request)) ⌝ }
+    ensures { λ r. ⌜ r .0 ≡ ageIn (now (request .entry)) ⌝ }
+{
+    if is_aged(request) {
+        return Age(word_at(request, START) as u16);
+    }
+    Age(0)
+}
+
+// How long the head says that a record is whose numbers begin at byte `from`.
+fn body_end(from: usize, head: Head) -> usize
+    requires { ⌜ (from ≤ agedStart) × (notDegree head ≡ false) ⌝ }
+    ensures { λ r. ⌜ r ≡ bodyEnd from head ⌝ }
+{
+    from + 2 * request::surface_count(head) + 2 * request::path_count(head)
 }
 
 // The composer's answer to the request in a record whose degrees and length are right.
-fn compose_in(request: &[u8], head: Head, points: &mut [i32]) -> Answer
-    requires { ⌜ Whole (now request) head × (length (now points) ≡ mostPoints) ⌝ }
-    ensures { λ a. ⌜ Given (now (request .entry)) (answer (requestIn (now (request .entry))) mostPoints mostPoints) (now (points .entry)) a (now (points .exit)) ⌝ }
+fn compose_in(request: &[u8], from: usize, head: Head, age: Age, points: &mut [i32]) -> Answer
+    requires { ⌜ Whole (now request) from head (age .0) × (length (now points) ≡ mostPoints) ⌝ }
+    ensures { λ a. ⌜ Given (now (request .entry)) (answer (requestIn (now (request .entry))) (ageIn (now (request .entry))) mostPoints mostPoints) (now (points .entry)) a (now (points .exit)) ⌝ }
 {
     let surface_count = request::surface_count(head);
     let path_count = request::path_count(head);
     let mut surface = [0i32; MOST_VALUES];
     let mut path = [0i32; MOST_PATH_NUMBERS];
     let mut exact = [0i64; MOST_POINTS];
-    read_numbers(request, START, surface_count, &mut surface);
-    read_numbers(request, START + 2 * surface_count, path_count, &mut path);
+    read_numbers(request, from, surface_count, &mut surface);
+    read_numbers(request, from + 2 * surface_count, path_count, &mut path);
     compose::compose(
         head.form,
         head.first,
         head.second,
         head.N,
+        age,
         &surface[..surface_count],
         &path[..path_count],
         &mut exact,
@@ -184,7 +222,7 @@ fn frame() -> Answer
     request::refusal(9, 0)
 }
 
-// The order of judgement: FRAME, KIND, DEGREE, the body's FRAME, and then the composer.
+// The order of judgement: FRAME, KIND, DEGREE, STALE, the body's FRAME, and then the composer.
 fn judge_record(request: &[u8], points: &mut [i32]) -> Answer
     requires { ⌜ length (now points) ≡ mostPoints ⌝ }
     ensures { λ a. ⌜ Given (now (request .entry)) (judged (now (request .entry))) (now (points .entry)) a (now (points .exit)) ⌝ }
@@ -199,10 +237,15 @@ fn judge_record(request: &[u8], points: &mut [i32]) -> Answer
     if request::not_degree(head) {
         return request::refusal(2, 0);
     }
-    if request.len() != body_end(head) {
+    let age = age_in(request);
+    if units::is_stale(age) {
+        return request::refusal(10, 0);
+    }
+    let from = start_in(request);
+    if request.len() != body_end(from, head) {
         return frame();
     }
-    compose_in(request, head, points)
+    compose_in(request, from, head, age, points)
 }
 
 // ---- the reply

@@ -12,15 +12,15 @@ use Rattle.request.specs.Refusal.{answer}
 use Rattle.compose.specs.Contract.{Composed}
 use Rattle.exports.specs.Exported.{withAnswer, Exported}
 
-pub untouched : (rq : Request) (exact points : List ℤ) (words : List ℕ) → length words < 3 → Exported rq exact points words 1 exact points words
-untouched rq exact points words short = record {
+pub untouched : (rq : Request) (age : ℕ) (exact points : List ℤ) (words : List ℕ) → length words < 3 → Exported rq age exact points words 1 exact points words
+untouched rq age exact points words short = record {
   room = λ enough. absurd (omega (arith, enough, short));
   no-room = λ _. record { code-is = refl; exact-is = refl; points-is = refl; words-is = refl };
 }
 
-pub answered : (rq : Request) (exact points : List ℤ) (words : List ℕ) (a : Answer) (exact′ points′ : List ℤ) (number : ℕ) (one two three : List ℕ) → 3 ≤ length words → Composed rq exact points a exact′ points′ → number ≡ a .number → one ≡ set words 0 number → two ≡ set one 1 (a .place) → three ≡ set two 2 (a .count) → Exported rq exact points words 0 exact′ points′ three
+pub answered : (rq : Request) (age : ℕ) (exact points : List ℤ) (words : List ℕ) (a : Answer) (exact′ points′ : List ℤ) (number : ℕ) (one two three : List ℕ) → 3 ≤ length words → Composed rq age exact points a exact′ points′ → number ≡ a .number → one ≡ set words 0 number → two ≡ set one 1 (a .place) → three ≡ set two 2 (a .count) → Exported rq age exact points words 0 exact′ points′ three
 unfolding withAnswer
-answered rq exact points words a exact′ points′ number one two three enough composed n first second third = record {
+answered rq age exact points words a exact′ points′ number one two three enough composed n first second third = record {
   room = λ _. record {
     code-is = refl;
     composed = record { answered = refl; exact-is = composed .exact-is; points-is = composed .points-is };

@@ -11,7 +11,7 @@ use lib.ListN.{length}
 use Rattle.request.specs.Request.{Request}
 use Rattle.exports.specs.Exported.{Exported}
 
-module _ (rq : Request) (exact points : List ℤ) (words : List ℕ) (code code₂ : ℕ) (exact′ points′ exact₂ points₂ : List ℤ) (words′ words₂ : List ℕ) (one : Exported rq exact points words code exact′ points′ words′) (two : Exported rq exact points words code₂ exact₂ points₂ words₂) where
+module _ (rq : Request) (age : ℕ) (exact points : List ℤ) (words : List ℕ) (code code₂ : ℕ) (exact′ points′ exact₂ points₂ : List ℤ) (words′ words₂ : List ℕ) (one : Exported rq age exact points words code exact′ points′ words′) (two : Exported rq age exact points words code₂ exact₂ points₂ words₂) where
   abbrev Same : Type 0
   Same = (code ≡ code₂) × (exact′ ≡ exact₂) × (points′ ≡ points₂) × (words′ ≡ words₂)
 

@@ -14,10 +14,10 @@ unfoldable pub withAnswer : Answer → List ℕ → List ℕ
 withAnswer a words = set (set (set words 0 (a .number)) 1 (a .place)) 2 (a .count)
 
 -- there is room for the answer: it is written, and both arrays are as the composer leaves them
-pub record Answered (rq : Request) (exact points : List ℤ) (words : List ℕ) (code : ℕ) (exact′ points′ : List ℤ) (words′ : List ℕ) : Type 0 where
+pub record Answered (rq : Request) (age : ℕ) (exact points : List ℤ) (words : List ℕ) (code : ℕ) (exact′ points′ : List ℤ) (words′ : List ℕ) : Type 0 where
   pub code-is : code ≡ 0
-  pub composed : Composed rq exact points (answer rq (length exact) (length points)) exact′ points′
-  pub words-is : words′ ≡ withAnswer (answer rq (length exact) (length points)) words
+  pub composed : Composed rq age exact points (answer rq age (length exact) (length points)) exact′ points′
+  pub words-is : words′ ≡ withAnswer (answer rq age (length exact) (length points)) words
 
 -- there is none: nothing is written
 pub record Untouched (exact points : List ℤ) (words : List ℕ) (code : ℕ) (exact′ points′ : List ℤ) (words′ : List ℕ) : Type 0 where
@@ -27,6 +27,6 @@ pub record Untouched (exact points : List ℤ) (words : List ℕ) (code : ℕ) (
   pub words-is : words′ ≡ words
 
 -- exact, points and words are the arrays as they were lent
-pub record Exported (rq : Request) (exact points : List ℤ) (words : List ℕ) (code : ℕ) (exact′ points′ : List ℤ) (words′ : List ℕ) : Type 0 where
-  pub room : 3 ≤ length words → Answered rq exact points words code exact′ points′ words′
+pub record Exported (rq : Request) (age : ℕ) (exact points : List ℤ) (words : List ℕ) (code : ℕ) (exact′ points′ : List ℤ) (words′ : List ℕ) : Type 0 where
+  pub room : 3 ≤ length words → Answered rq age exact points words code exact′ points′ words′
   pub no-room : length words < 3 → Untouched exact points words code exact′ points′ words′

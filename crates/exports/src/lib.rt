@@ -5,6 +5,7 @@ ghost use Prim.Native.Nat.{_<_};
 ghost use lib.ListN.{length, set};
 ghost use Rattle.compose.specs.Contract.{requestOf};
 ghost use Rattle.exports.specs.Exported.{Exported};
+use units::Age;
 
 fn wide(x: u32) -> u64
     ensures { λ r. ⌜ r ≡ x ⌝ }
@@ -19,26 +20,38 @@ fn put(words: &mut [u64], k: usize, x: u64)
     words[k] = x;
 }
 
-// Composes a surface and a path, and writes the number, the place and the count of the answer to the first three of
-// `words`: 0. Where `words` has fewer than three places nothing at all is written: 1.
+// Composes a surface and a path, on a tilt sample of the given age in milliseconds, and writes the number, the place and
+// the count of the answer to the first three of `words`: 0. Where `words` has fewer than three places nothing at all is
+// written: 1.
 #[no_mangle]
 pub extern "C" fn lean_compose(
     form: u32,
     first: u32,
     second: u32,
     N: u32,
+    age: u16,
     surface: &[i32],
     path: &[i32],
     exact: &mut [i64],
     points: &mut [i32],
     words: &mut [u64],
 ) -> u32
-    ensures { λ code. ⌜ Exported (requestOf form first second N (now (surface .entry)) (now (path .entry))) (now (exact .entry)) (now (points .entry)) (now (words .entry)) code (now (exact .exit)) (now (points .exit)) (now (words .exit)) ⌝ }
+    ensures { λ code. ⌜ Exported (requestOf form first second N (now (surface .entry)) (now (path .entry))) age (now (exact .entry)) (now (points .entry)) (now (words .entry)) code (now (exact .exit)) (now (points .exit)) (now (words .exit)) ⌝ }
 {
     if words.len() < 3 {
         return 1;
     }
-    let answer = compose::compose(form, first, second, N, surface, path, exact, points);
+    let answer = compose::compose(
+        form,
+        first,
+        second,
+        N,
+        Age(age),
+        surface,
+        path,
+        exact,
+        points,
+    );
     put(words, 0, wide(answer.number));
     put(words, 1, answer.place as u64);
     put(words, 2, answer.count as u64);

@@ -36,9 +36,9 @@ value-mirrored surface =
     ap (λ n. least n (λ k. beyondTravel (getD (map negℤ surface) k (pos 0)))) (length-map surface negℤ)
     ∙ (λ t. least (length surface) (λ k. (ap beyondTravel (List·getD-map negℤ surface k (pos 0)) ∙ beyond-neg (getD surface k (pos 0))) t))
 
-pub answer-mirrored : (rq : Request) (exactRoom pointsRoom : ℕ) → answer (mirrored rq) exactRoom pointsRoom ≡ answer rq exactRoom pointsRoom
+pub answer-mirrored : (rq : Request) (age exactRoom pointsRoom : ℕ) → answer (mirrored rq) age exactRoom pointsRoom ≡ answer rq age exactRoom pointsRoom
 unfolding mirrored answer answerNumbers notSurface notPath notValue notParameter notBalance
-answer-mirrored rq exactRoom pointsRoom = rw (length-map (rq .surface) negℤ, value-mirrored (rq .surface))
+answer-mirrored rq age exactRoom pointsRoom = rw (length-map (rq .surface) negℤ, value-mirrored (rq .surface))
 
 -- ---- the numerators: −1 times a net has −1 times its blossom
 single : Linear {A = Unit {0}} (λ f. f tt)

@@ -8,11 +8,12 @@ use native.Mathlib.Nat.{not-suc-le-zero, le-of-suc-le-suc}
 use native.Mathlib.Omega.{arith}
 use lib.Dec.{eqb}
 use lib.ListN.{getD}
+use Rattle.units.specs.Bounds.{stale}
 use Rattle.request.specs.declared.Answer.{Answer}
 use Rattle.request.specs.Head.{longest}
 use Rattle.request.specs.Request.{Request}
 use Rattle.request.specs.Refusal.{answer, answerNumbers, refused, accepted, notKind, notDegree, notSurface, notPath, notRoom, notValue, notParameter, notBalance, valuePlace, parameterPlace, balancePlace}
-use Rattle.request.specs.Order.{tests, further, first, placeFor}
+use Rattle.request.specs.Order.{tests, further, first, numbers, placeFor}
 
 not-one : (n : ℕ) → further n ≡ 1 → ⊥
 unfolding further
@@ -49,27 +50,28 @@ pub first-exact : (tests : List Bool) (i : ℕ) → (first tests ≡ suc i) ↔ 
 first-exact tests i = (to tests i, λ w. from tests i (w .0) (w .1))
 
 pub record Ordered (rq : Request) (list : List Bool) (a : Answer) : Type 0 where
-  pub number : a .number ≡ first list
+  pub number : a .number ≡ getD numbers (first list) 0
   pub place : a .place ≡ placeFor rq (a .number)
   pub count : a .count ≡ cond (eqb (a .number) 0) (longest (rq .head) + 1) 0
 
--- the cascade, over any eight tests: the first that holds decides
-cascade : (rq : Request) (a b c d e f g h : Bool)
-    → Ordered rq (a ∷ b ∷ c ∷ d ∷ e ∷ f ∷ g ∷ h ∷ [])
-    (cond a (refused 1 0) (cond b (refused 2 0) (cond c (refused 3 0) (cond d (refused 4 0) (cond e (refused 5 0)
-    (cond f (refused 6 (valuePlace (rq .surface))) (cond g (refused 7 (parameterPlace (rq .path))) (cond h (refused 8 (balancePlace (rq .path) (rq .head .N))) (accepted (rq .head))))))))))
-unfolding first further placeFor refused accepted
-cascade rq true b c d e f g h = record { number = refl; place = refl; count = refl }
-cascade rq false true c d e f g h = record { number = refl; place = refl; count = refl }
-cascade rq false false true d e f g h = record { number = refl; place = refl; count = refl }
-cascade rq false false false true e f g h = record { number = refl; place = refl; count = refl }
-cascade rq false false false false true f g h = record { number = refl; place = refl; count = refl }
-cascade rq false false false false false true g h = record { number = refl; place = refl; count = refl }
-cascade rq false false false false false false true h = record { number = refl; place = refl; count = refl }
-cascade rq false false false false false false false true = record { number = refl; place = refl; count = refl }
-cascade rq false false false false false false false false = record { number = refl; place = refl; count = refl }
+-- the cascade, over any nine tests: the first that holds decides
+cascade : (rq : Request) (a b s c d e f g h : Bool)
+    → Ordered rq (a ∷ b ∷ s ∷ c ∷ d ∷ e ∷ f ∷ g ∷ h ∷ [])
+    (cond a (refused 1 0) (cond b (refused 2 0) (cond s (refused 10 0) (cond c (refused 3 0) (cond d (refused 4 0) (cond e (refused 5 0)
+    (cond f (refused 6 (valuePlace (rq .surface))) (cond g (refused 7 (parameterPlace (rq .path))) (cond h (refused 8 (balancePlace (rq .path) (rq .head .N))) (accepted (rq .head)))))))))))
+unfolding first further placeFor numbers refused accepted
+cascade rq true b s c d e f g h = record { number = refl; place = refl; count = refl }
+cascade rq false true s c d e f g h = record { number = refl; place = refl; count = refl }
+cascade rq false false true c d e f g h = record { number = refl; place = refl; count = refl }
+cascade rq false false false true d e f g h = record { number = refl; place = refl; count = refl }
+cascade rq false false false false true e f g h = record { number = refl; place = refl; count = refl }
+cascade rq false false false false false true f g h = record { number = refl; place = refl; count = refl }
+cascade rq false false false false false false true g h = record { number = refl; place = refl; count = refl }
+cascade rq false false false false false false false true h = record { number = refl; place = refl; count = refl }
+cascade rq false false false false false false false false true = record { number = refl; place = refl; count = refl }
+cascade rq false false false false false false false false false = record { number = refl; place = refl; count = refl }
 
-pub ordered : (rq : Request) (exactRoom pointsRoom : ℕ) → Ordered rq (tests rq exactRoom pointsRoom) (answer rq exactRoom pointsRoom)
+pub ordered : (rq : Request) (age exactRoom pointsRoom : ℕ) → Ordered rq (tests rq age exactRoom pointsRoom) (answer rq age exactRoom pointsRoom)
 unfolding tests answer answerNumbers
-ordered rq exactRoom pointsRoom =
-    cascade rq (notKind (rq .head)) (notDegree (rq .head)) (notSurface rq) (notPath rq) (notRoom (rq .head) exactRoom pointsRoom) (notValue rq) (notParameter rq) (notBalance rq)
+ordered rq age exactRoom pointsRoom =
+    cascade rq (notKind (rq .head)) (notDegree (rq .head)) (stale age) (notSurface rq) (notPath rq) (notRoom (rq .head) exactRoom pointsRoom) (notValue rq) (notParameter rq) (notBalance rq)

@@ -7,6 +7,7 @@ use Prim.Native.Nat.{ℕ, _+_, _≤_, _<_}
 use lib.Dec.{ltb, eqb}
 use lib.ListN.{length}
 use borrow.Author.Tests.{lt-ltb, le-ltb, eq-eqb, ne-eqb}
+use Rattle.units.specs.Bounds.{stale}
 use Rattle.request.specs.declared.Answer.{Answer}
 use Rattle.request.specs.declared.Head.{Head}
 use Rattle.request.specs.Head.{longest, surfaceCount, pathCount}
@@ -14,40 +15,45 @@ use Rattle.request.specs.Request.{Request}
 use Rattle.request.specs.Refusal.{answer, answerNumbers, refused, accepted, notKind, notDegree, notSurface, notPath, notRoom, notValue, notParameter, notBalance, valuePlace, parameterPlace, balancePlace}
 use Rattle.request.proofs.Forms.{at-curve, at-tensor, at-triangle}
 
--- the first two by their own tests, the others by what is compared
-module _ (rq : Request) (e p : ℕ) where
-  pub kind-refused : notKind (rq .head) ≡ true → answer rq e p ≡ refused 1 0
+-- the first three by their own tests, the others by what is compared
+module _ (rq : Request) (age e p : ℕ) where
+  pub kind-refused : notKind (rq .head) ≡ true → answer rq age e p ≡ refused 1 0
   unfolding answer
   kind-refused k = rw k
 
   module _ (k : notKind (rq .head) ≡ false) where
-    pub degree-refused : notDegree (rq .head) ≡ true → answer rq e p ≡ refused 2 0
+    pub degree-refused : notDegree (rq .head) ≡ true → answer rq age e p ≡ refused 2 0
     unfolding answer
     degree-refused d = rw (k, d)
 
     module _ (d : notDegree (rq .head) ≡ false) where
-      pub surface-refused : (length (rq .surface) ≡ surfaceCount (rq .head) → ⊥) → answer rq e p ≡ refused 3 0
-      unfolding answer notSurface
-      surface-refused s = rw (k, d, ne-eqb _ _ s)
+      pub stale-refused : stale age ≡ true → answer rq age e p ≡ refused 10 0
+      unfolding answer
+      stale-refused o = rw (k, d, o)
 
-      module _ (s : length (rq .surface) ≡ surfaceCount (rq .head)) where
-        pub path-refused : (length (rq .path) ≡ pathCount (rq .head) → ⊥) → answer rq e p ≡ refused 4 0
-        unfolding answer notSurface notPath
-        path-refused t = rw (k, d, eq-eqb _ _ s, ne-eqb _ _ t)
+      module _ (o : stale age ≡ false) where
+        pub surface-refused : (length (rq .surface) ≡ surfaceCount (rq .head) → ⊥) → answer rq age e p ≡ refused 3 0
+        unfolding answer notSurface
+        surface-refused s = rw (k, d, o, ne-eqb _ _ s)
 
-        module _ (t : length (rq .path) ≡ pathCount (rq .head)) where
-          pub exact-room-refused : e < longest (rq .head) + 1 → answer rq e p ≡ refused 5 0
-          unfolding answer notSurface notPath notRoom
-          exact-room-refused a = rw (k, d, eq-eqb _ _ s, eq-eqb _ _ t, lt-ltb _ _ a)
+        module _ (s : length (rq .surface) ≡ surfaceCount (rq .head)) where
+          pub path-refused : (length (rq .path) ≡ pathCount (rq .head) → ⊥) → answer rq age e p ≡ refused 4 0
+          unfolding answer notSurface notPath
+          path-refused t = rw (k, d, o, eq-eqb _ _ s, ne-eqb _ _ t)
 
-          module _ (a : longest (rq .head) + 1 ≤ e) where
-            pub points-room-refused : p < longest (rq .head) + 1 → answer rq e p ≡ refused 5 0
+          module _ (t : length (rq .path) ≡ pathCount (rq .head)) where
+            pub exact-room-refused : e < longest (rq .head) + 1 → answer rq age e p ≡ refused 5 0
             unfolding answer notSurface notPath notRoom
-            points-room-refused b = rw (k, d, eq-eqb _ _ s, eq-eqb _ _ t, le-ltb _ _ a, lt-ltb _ _ b)
+            exact-room-refused a = rw (k, d, o, eq-eqb _ _ s, eq-eqb _ _ t, lt-ltb _ _ a)
 
-            pub to-numbers : longest (rq .head) + 1 ≤ p → answer rq e p ≡ answerNumbers rq
-            unfolding answer notSurface notPath notRoom
-            to-numbers b = rw (k, d, eq-eqb _ _ s, eq-eqb _ _ t, le-ltb _ _ a, le-ltb _ _ b)
+            module _ (a : longest (rq .head) + 1 ≤ e) where
+              pub points-room-refused : p < longest (rq .head) + 1 → answer rq age e p ≡ refused 5 0
+              unfolding answer notSurface notPath notRoom
+              points-room-refused b = rw (k, d, o, eq-eqb _ _ s, eq-eqb _ _ t, le-ltb _ _ a, lt-ltb _ _ b)
+
+              pub to-numbers : longest (rq .head) + 1 ≤ p → answer rq age e p ≡ answerNumbers rq
+              unfolding answer notSurface notPath notRoom
+              to-numbers b = rw (k, d, o, eq-eqb _ _ s, eq-eqb _ _ t, le-ltb _ _ a, le-ltb _ _ b)
 
 module _ (rq : Request) where
   pub value-refused : valuePlace (rq .surface) < length (rq .surface) → answerNumbers rq ≡ refused 6 (valuePlace (rq .surface))

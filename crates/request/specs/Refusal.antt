@@ -1,4 +1,5 @@
--- "The eight refusals, tested in this order", each test by itself, and the answer: a number, a place and a count.
+-- "The eight refusals, tested in this order", and ticket 3's ninth, each test by itself, and the answer: a number, a place
+-- and a count.
 -- Degrees are whole numbers here, so no sum wraps, however large. Assumes nothing.
 use mathlib.Core.Bool.{Bool, false, not, cond, _||_}
 use mathlib.Core.List.{List}
@@ -6,7 +7,7 @@ use Prim.Native.Nat.{ℕ, zero, suc, _+_, _*_}
 use lib.IntN.{ℤ, pos, negsuc, _+ℤ_}
 use lib.Dec.{ltb, eqb}
 use lib.ListN.{length, getD}
-use Rattle.units.specs.Bounds.{beyondTravel, beyondPath, one}
+use Rattle.units.specs.Bounds.{beyondTravel, beyondPath, stale, one}
 use Rattle.request.specs.declared.Answer.{Answer}
 use Rattle.request.specs.declared.Head.{Head}
 use Rattle.request.specs.Head.{byForm, degree, longest, surfaceCount, pathCount}
@@ -85,12 +86,14 @@ answerNumbers rq =
     (cond (notBalance rq) (refused 8 (balancePlace (rq .path) (rq .head .N)))
     (accepted (rq .head))))
 
--- the refusals in their order, with their numbers and places
-unfoldable pub answer : Request → ℕ → ℕ → Answer
-answer rq exactRoom pointsRoom =
+-- the refusals in their order, with their numbers and places, for the age of the tilt sample and the two rooms; 10 STALE
+-- "stands right after DEGREE" (02, ticket 3)
+unfoldable pub answer : Request → ℕ → ℕ → ℕ → Answer
+answer rq age exactRoom pointsRoom =
     cond (notKind (rq .head)) (refused 1 0)
     (cond (notDegree (rq .head)) (refused 2 0)
+    (cond (stale age) (refused 10 0)
     (cond (notSurface rq) (refused 3 0)
     (cond (notPath rq) (refused 4 0)
     (cond (notRoom (rq .head) exactRoom pointsRoom) (refused 5 0)
-    (answerNumbers rq)))))
+    (answerNumbers rq))))))

@@ -1,11 +1,12 @@
-// Document 01's request and its eight refusals, tested in the stated order: `judge` answers a number, a place and a count
-// for every request and writes nothing.
+// Document 01's request and its nine refusals, tested in the stated order: `judge` answers a number, a place and a count for
+// every request and writes nothing.
 ghost use mathlib.Core.Path.{_≡_};
 ghost use mathlib.Core.Bool.{false};
 ghost use Prim.Native.Nat.{_+_, _<_};
 ghost use lib.ListN.{length};
 ghost use Rattle.request.specs.Head.{degree, longest, surfaceCount, pathCount};
 ghost use Rattle.request.specs.Refusal.{answer, answerNumbers, refused, uneven, notKind, notDegree, valuePlace, parameterPlace, balancePlace};
+use units::Age;
 
 // What a request is besides its two arrays: the form, a first and a second degree, and the path's degree N.
 pub struct Head {
@@ -179,7 +180,7 @@ fn acceptance(count: usize) -> Answer
     }
 }
 
-// The last three refusals, VALUE, PARAMETER and BALANCE, of a request that the first five let pass.
+// The last three refusals, VALUE, PARAMETER and BALANCE, of a request that the first six let pass.
 fn judge_numbers(head: Head, surface: &[i32], path: &[i32], count: usize) -> Answer
     requires { ⌜ (notDegree head ≡ false) × (count ≡ longest head + 1) ⌝ }
     ensures { λ r. ⌜ r ≡ answerNumbers (record { head = head; surface = now (surface .entry); path = now (path .entry) }) ⌝ }
@@ -206,22 +207,26 @@ fn judge_numbers(head: Head, surface: &[i32], path: &[i32], count: usize) -> Ans
     acceptance(count)
 }
 
-// The eight refusals in their order, each exactly on its condition, or the acceptance: document 01's answer to a request
+// The nine refusals in their order, each exactly on its condition, or the acceptance: document 01's answer to a request
 // whose output arrays have the two rooms.
 pub fn judge(
     head: Head,
+    age: Age,
     surface: &[i32],
     path: &[i32],
     exact_room: usize,
     points_room: usize,
 ) -> Answer
-    ensures { λ r. ⌜ r ≡ answer (record { head = head; surface = now (surface .entry); path = now (path .entry) }) «exact_room» «points_room» ⌝ }
+    ensures { λ r. ⌜ r ≡ answer (record { head = head; surface = now (surface .entry); path = now (path .entry) }) (age .0) «exact_room» «points_room» ⌝ }
 {
     if not_kind(head) {
         return refusal(1, 0);
     }
     if not_degree(head) {
         return refusal(2, 0);
+    }
+    if units::is_stale(age) {
+        return refusal(10, 0);
     }
     if surface.len() != surface_count(head) {
         return refusal(3, 0);

@@ -1,4 +1,4 @@
--- Laws of a whole request: the head, the lists and the rooms one after the other, and a list in its array. Assumes nothing.
+-- Laws of a whole request: the head, the lists and the end one after the other, and a list in its array. Assumes nothing.
 use mathlib.Core.Path.{_≡_, refl, _∙_}
 use mathlib.Core.Bool.{true, false}
 use mathlib.Core.List.{List, [], _∷_}
@@ -10,12 +10,12 @@ use lib.ListN.{length, take, drop, replicate, take-append-drop}
 use lib.Seq.{length-take-le}
 use borrow.Author.Tests.{lt-ltb, le-ltb}
 use Rattle.text.specs.Words.{run, every}
-use Rattle.text.specs.Line.{got, wrong, most, _then_, headed, listed, roomed, together, asked, judged, Meaning, passed, unreadable, isPassed, meaning}
-use Rattle.text.specs.Read.{ReadsHead, ReadsList, ReadsRooms}
+use Rattle.text.specs.Line.{got, wrong, most, _then_, headed, listed, ended, together, asked, judged, Meaning, passed, unreadable, isPassed, meaning}
+use Rattle.text.specs.Read.{ReadsHead, ReadsList, ReadsEnd}
 use Rattle.text.specs.Told.{padded, shown, Tells}
 use Rattle.text.specs.declared.numbers.Listed.{Listed}
 use Rattle.text.specs.declared.numbers.Headed.{Headed}
-use Rattle.text.specs.declared.numbers.Roomed.{Roomed}
+use Rattle.text.specs.declared.numbers.Ended.{Ended}
 use Rattle.text.specs.declared.Line.the-variants.{Asks}
 use Rattle.text.specs.declared.Reading.{Reading}
 use Rattle.text.proofs.Steps.{then-got, then-wrong, further}
@@ -77,7 +77,7 @@ module _ (s : List ℕ) (h : Headed) (h-is : ReadsHead s h) where
         judged-wrong s _ (then-got (headed s) _ _ _ _ (h-is .is) h-ok ∙ then-wrong (listed (drop (h .next) s)) _ _ _ _ (a-is .is) n)
 
     module _ (a-ok : a .wrong ≡ 0) (now′ : List ℤ) (b : Listed) (b-is : ReadsList (drop (h .next + a .next) s) zeros now′ b) where
-      to-path : asked s ≡ (listed (drop (h .next + a .next) s) then λ path s. roomed s then λ rooms s. got (together (h .head) (take (a .count) now) path rooms) s)
+      to-path : asked s ≡ (listed (drop (h .next + a .next) s) then λ path s. ended s then λ e s. got (together (h .head) (take (a .count) now) path (e .0) (e .1)) s)
       unfolding asked together
       to-path =
           then-got (headed s) _ _ _ _ (h-is .is) h-ok
@@ -87,18 +87,18 @@ module _ (s : List ℕ) (h : Headed) (h-is : ReadsHead s h) where
       pub asks-path : (b .wrong ≡ 0 → ⊥) → (t : Reading) → t ≡ shown (unreadable (b .wrong)) → Tells (judged (asked s)) t
       asks-path n = judged-wrong s _ (to-path ∙ then-wrong (listed _) _ _ _ _ (b-is .is) n)
 
-      module _ (b-ok : b .wrong ≡ 0) (r : Roomed) (r-is : ReadsRooms (drop (h .next + a .next + b .next) s) r) where
-        to-rooms : asked s ≡ (roomed (drop (h .next + a .next + b .next) s) then λ rooms s. got (together (h .head) (take (a .count) now) (take (b .count) now′) rooms) s)
-        to-rooms = to-path ∙ then-got (listed _) _ _ _ _ (b-is .is) b-ok ∙ rw (further s (h .next + a .next) (b .next))
+      module _ (b-ok : b .wrong ≡ 0) (r : Ended) (r-is : ReadsEnd (drop (h .next + a .next + b .next) s) r) where
+        to-end : asked s ≡ (ended (drop (h .next + a .next + b .next) s) then λ e s. got (together (h .head) (take (a .count) now) (take (b .count) now′) (e .0) (e .1)) s)
+        to-end = to-path ∙ then-got (listed _) _ _ _ _ (b-is .is) b-ok ∙ rw (further s (h .next + a .next) (b .next))
 
-        pub asks-rooms : (r .wrong ≡ 0 → ⊥) → (t : Reading) → t ≡ shown (unreadable (r .wrong)) → Tells (judged (asked s)) t
-        asks-rooms n = judged-wrong s _ (to-rooms ∙ then-wrong (roomed _) _ _ _ _ (r-is .is) n)
+        pub asks-end : (r .wrong ≡ 0 → ⊥) → (t : Reading) → t ≡ shown (unreadable (r .wrong)) → Tells (judged (asked s)) t
+        asks-end n = judged-wrong s _ (to-end ∙ then-wrong (ended _) _ _ _ _ (r-is .is) n)
 
         pub asks-all : r .wrong ≡ 0
-            → Tells (judged (asked s)) (record { line = Asks (record { head = h .head; surface = a .count; path = b .count; rooms = r .rooms }); surface = now; path = now′ })
+            → Tells (judged (asked s)) (record { line = Asks (record { head = h .head; surface = a .count; path = b .count; rooms = r .rooms; age = r .age }); surface = now; path = now′ })
         unfolding judged shown together
         asks-all r-ok = record {
           is =
-              rw (to-rooms ∙ then-got (roomed _) _ _ _ _ (r-is .is) r-ok, counted _ now a a-is, counted _ now′ b b-is, padded-is _ now a a-is, padded-is _ now′ b b-is);
+              rw (to-end ∙ then-got (ended _) _ _ _ _ (r-is .is) r-ok, counted _ now a a-is, counted _ now′ b b-is, padded-is _ now a a-is, padded-is _ now′ b b-is);
           small = (a-is .small, b-is .small, r-is .small-exact, r-is .small-points);
         }

@@ -1,4 +1,4 @@
--- Worked lines as a table with one statement: ride P1 with and without rooms, lines with something wrong, and lines that
+-- Worked lines as a table with one statement: ride P1 with and without rooms and an age, lines with something wrong, and lines that
 -- are passed over; a number as it is written, and two answer lines. Assumes nothing.
 use mathlib.Core.Path.{_≡_, refl}
 use mathlib.Core.Bool.{true, false}
@@ -7,7 +7,7 @@ use Prim.Native.Nat.{ℕ}
 use lib.IntN.{pos, negsuc}
 use Rattle.text.specs.Words.{isBlank, isSolid, isDigit, run, every, word, after, spelled, signed, ofDigits, whole}
 use Rattle.text.specs.Decimal.{digitsOf, digits, decimal, spaced, verdict, lists, answerLine}
-use Rattle.text.specs.Line.{within, bounded, number, natural, values, listed, paired, headed, roomed, together, asked, judged, isPassed, meaning, Meaning, passed, unreadable, asks}
+use Rattle.text.specs.Line.{within, bounded, number, natural, values, listed, paired, headed, roomed, aged, ended, together, asked, judged, isPassed, meaning, Meaning, passed, unreadable, asks}
 use Rattle.text.specs.declared.Rooms.{Rooms}
 
 -- `1 1 0 1 2 0`
@@ -18,38 +18,42 @@ start = 49 ∷ 32 ∷ 49 ∷ 32 ∷ 48 ∷ 32 ∷ 49 ∷ 32 ∷ 50 ∷ 32 ∷ 48
 end : List ℕ
 end = 32 ∷ 49 ∷ 48 ∷ 48 ∷ 32 ∷ 50 ∷ 32 ∷ 48 ∷ 32 ∷ 49 ∷ 48 ∷ 50 ∷ 52 ∷ []
 
--- P1 alone, after a blank and with a tab and the rooms 4 and 3, with one room, with three words more, with the word `-`
--- or `2147483648` for 100, a blank line, and `#x`
+-- P1 alone, after a blank and with a tab and the rooms 4 and 3, with the age 4, with the rooms 4 and 3 and the age 0, with
+-- a word more, with an age of 65536, with the word `-` or `2147483648` for 100, a blank line, and `#x`
 lines : List (List ℕ)
 lines =
     (start ++ end)
     ∷ (32 ∷ start ++ end ++ (9 ∷ 52 ∷ 32 ∷ 51 ∷ []))
     ∷ (start ++ end ++ (32 ∷ 52 ∷ []))
     ∷ (start ++ end ++ (32 ∷ 52 ∷ 32 ∷ 51 ∷ 32 ∷ 48 ∷ []))
+    ∷ (start ++ end ++ (32 ∷ 52 ∷ 32 ∷ 51 ∷ 32 ∷ 48 ∷ 32 ∷ 48 ∷ []))
+    ∷ (start ++ end ++ (32 ∷ 54 ∷ 53 ∷ 53 ∷ 51 ∷ 54 ∷ []))
     ∷ (start ++ (32 ∷ 45 ∷ []) ++ end)
     ∷ (start ++ (32 ∷ 50 ∷ 49 ∷ 52 ∷ 55 ∷ 52 ∷ 56 ∷ 51 ∷ 54 ∷ 52 ∷ 56 ∷ []) ++ end)
     ∷ (32 ∷ 9 ∷ [])
     ∷ (35 ∷ 120 ∷ [])
     ∷ []
 
-p1 : Rooms → Meaning
-p1 rooms =
+p1 : Rooms → ℕ → Meaning
+p1 rooms age =
     asks (record {
-      request = record { head = record { form = 1; first = 1; second = 0; N = 1 }; surface = 2; path = 2; rooms = rooms };
+      request = record { head = record { form = 1; first = 1; second = 0; N = 1 }; surface = 2; path = 2; rooms = rooms; age = age };
       surface = pos 0 ∷ pos 100 ∷ [];
       path = pos 0 ∷ pos 1024 ∷ [];
     })
 
-lines-are : map meaning lines ≡ p1 (record { given = false; exact = 13; points = 13 })
-    ∷ p1 (record { given = true; exact = 4; points = 3 })
-    ∷ unreadable 3
+lines-are : map meaning lines ≡ p1 (record { given = false; exact = 13; points = 13 }) 0
+    ∷ p1 (record { given = true; exact = 4; points = 3 }) 0
+    ∷ p1 (record { given = false; exact = 13; points = 13 }) 4
+    ∷ p1 (record { given = true; exact = 4; points = 3 }) 0
     ∷ unreadable 4
+    ∷ unreadable 2
     ∷ unreadable 1
     ∷ unreadable 2
     ∷ passed
     ∷ passed
     ∷ []
-unfolding start end lines p1 meaning isPassed judged asked together roomed headed paired listed values natural number bounded within whole ofDigits signed spelled after word every run isDigit isSolid isBlank
+unfolding start end lines p1 meaning isPassed judged asked together ended roomed aged headed paired listed values natural number bounded within whole ofDigits signed spelled after word every run isDigit isSolid isBlank
 lines-are = refl
 
 -- `-2500`

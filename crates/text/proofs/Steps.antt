@@ -10,13 +10,15 @@ use lib.IntN.{ℤ, natAbs}
 use lib.ListN.{length, take, drop, set, length-drop, length-set}
 use lib.Seq.{drop-drop, take-suc-set, drop-set-lt}
 use borrow.Author.Tests.{eq-eqb, ne-eqb}
-use Rattle.text.specs.Words.{isBlank, every, signed}
-use Rattle.text.specs.Line.{Got, got, wrong, _then_, most, largest, number, natural, values, listed, paired, headed, roomed}
-use Rattle.text.specs.Read.{outcome, Reads, ReadsValues, ReadsList, ReadsPair, ReadsHead, ReadsRooms, noPair, noRooms}
+use Rattle.text.specs.Words.{isBlank, every, after, signed}
+use Rattle.text.specs.Line.{Got, got, wrong, _then_, most, largest, greatestAge, number, natural, values, listed, paired, headed, roomed, aged, ended}
+use Rattle.text.specs.Read.{outcome, Reads, ReadsValues, ReadsList, ReadsPair, ReadsHead, ReadsRooms, ReadsAge, ReadsEnd, noPair, noRooms}
 use Rattle.text.specs.declared.word.Found.{Found}
 use Rattle.text.specs.declared.numbers.Pair.{Pair}
 use Rattle.text.specs.declared.numbers.Values.{Values}
 use Rattle.text.specs.declared.numbers.Headed.{Headed}
+use Rattle.text.specs.declared.numbers.Roomed.{Roomed}
+use Rattle.text.specs.declared.numbers.Aged.{Aged}
 
 module _ {A : Type 0} (w : ℕ) (a : A) (rest : List ℕ) where
   pub outcome-got : w ≡ 0 → outcome w a rest ≡ got a rest
@@ -136,29 +138,66 @@ module _ (s : List ℕ) (a : Pair) (is : ReadsPair largest s a) where
 -- the rooms
 module _ (s : List ℕ) where
   no-rooms : (w : ℕ) → (w ≡ 0 → ⊥) → roomed s ≡ wrong w → ReadsRooms s (noRooms w)
-  no-rooms w h e = record { is = e ∙ sym (outcome-wrong w _ _ h); small-exact = omega arith; small-points = omega arith }
+  no-rooms w h e = record { is = e ∙ sym (outcome-wrong w _ _ h); inside = omega arith; small-exact = omega arith; small-points = omega arith }
 
-  pub rooms-own : every isBlank s ≡ true → ReadsRooms s (record { wrong = 0; rooms = record { given = false; exact = 13; points = 13 }; next = 0 })
+  pub rooms-own : every isBlank (after s) ≡ true → ReadsRooms s (record { wrong = 0; rooms = record { given = false; exact = 13; points = 13 }; next = 0 })
   unfolding roomed
-  rooms-own t = record { is = rw t (sym (outcome-got 0 _ _ refl)); small-exact = omega arith; small-points = omega arith }
+  rooms-own t = record { is = rw t (sym (outcome-got 0 _ _ refl)); inside = omega arith; small-exact = omega arith; small-points = omega arith }
 
-  module _ (t : every isBlank s ≡ false) (a : Pair) (is : ReadsPair most s a) where
+  module _ (t : every isBlank (after s) ≡ false) (a : Pair) (is : ReadsPair most s a) where
     pub rooms-wrong : (a .wrong ≡ 0 → ⊥) → ReadsRooms s (noRooms (a .wrong))
     unfolding roomed
     rooms-wrong h = no-rooms (a .wrong) h (rw t (then-wrong (paired most s) _ _ _ _ (is .is) h))
 
-    module _ (both : a .wrong ≡ 0) where
-      pub rooms-more : every isBlank (drop (a .next) s) ≡ false → ReadsRooms s (noRooms 4)
-      unfolding roomed
-      rooms-more u = no-rooms 4 (λ z. omega arith) (rw t (then-got (paired most s) _ _ _ _ (is .is) both ∙ rw u))
+    pub rooms-given : a .wrong ≡ 0 → ReadsRooms s (record { wrong = 0; rooms = record { given = true; exact = a .first; points = a .second }; next = a .next })
+    unfolding roomed
+    rooms-given both = record {
+      is = rw t (then-got (paired most s) _ _ _ _ (is .is) both ∙ sym (outcome-got 0 _ _ refl));
+      inside = is .inside;
+      small-exact = is .small-first;
+      small-points = is .small-second;
+    }
 
-      pub rooms-given : every isBlank (drop (a .next) s) ≡ true → ReadsRooms s (record { wrong = 0; rooms = record { given = true; exact = a .first; points = a .second }; next = a .next })
-      unfolding roomed
-      rooms-given u = record {
-        is = rw t (then-got (paired most s) _ _ _ _ (is .is) both ∙ rw u (sym (outcome-got 0 _ _ refl)));
-        small-exact = is .small-first;
-        small-points = is .small-second;
-      }
+-- the age
+module _ (s : List ℕ) where
+  no-age : (w : ℕ) → (w ≡ 0 → ⊥) → aged s ≡ wrong w → ReadsAge s (record { wrong = w; age = 0 })
+  no-age w h e = record { is = e ∙ sym (outcome-wrong w _ _ h) }
+
+  pub age-none : every isBlank s ≡ true → ReadsAge s (record { wrong = 0; age = 0 })
+  unfolding aged
+  age-none t = record { is = rw t (sym (outcome-got 0 _ _ refl)) }
+
+  module _ (t : every isBlank s ≡ false) (a : Found) (is : Reads 0 greatestAge s a) where
+    pub age-wrong : (a .wrong ≡ 0 → ⊥) → ReadsAge s (record { wrong = a .wrong; age = 0 })
+    unfolding aged
+    age-wrong h = no-age (a .wrong) h (rw t (then-wrong (natural greatestAge s) _ _ _ _ (natural-is greatestAge s a is) h))
+
+    module _ (read : a .wrong ≡ 0) where
+      pub age-more : every isBlank (drop (a .next) s) ≡ false → ReadsAge s (record { wrong = 4; age = 0 })
+      unfolding aged
+      age-more u = no-age 4 (λ z. omega arith) (rw t (then-got (natural greatestAge s) _ _ _ _ (natural-is greatestAge s a is) read ∙ rw u))
+
+      pub age-given : every isBlank (drop (a .next) s) ≡ true → ReadsAge s (record { wrong = 0; age = a .size })
+      unfolding aged
+      age-given u = record { is = rw t (then-got (natural greatestAge s) _ _ _ _ (natural-is greatestAge s a is) read ∙ rw u (sym (outcome-got 0 _ _ refl))) }
+
+-- both
+module _ (s : List ℕ) (a : Roomed) (is : ReadsRooms s a) where
+  pub end-rooms : (a .wrong ≡ 0 → ⊥) → ReadsEnd s (record { wrong = a .wrong; rooms = a .rooms; age = 0 })
+  unfolding ended
+  end-rooms h = record {
+    is = then-wrong (roomed s) _ _ _ _ (is .is) h ∙ sym (outcome-wrong (a .wrong) _ _ h);
+    small-exact = is .small-exact;
+    small-points = is .small-points;
+  }
+
+  pub end-both : a .wrong ≡ 0 → (b : Aged) → ReadsAge (drop (a .next) s) b → ReadsEnd s (record { wrong = b .wrong; rooms = a .rooms; age = b .age })
+  unfolding ended
+  end-both e b then-is = record {
+    is = then-got (roomed s) _ _ _ _ (is .is) e ∙ rw (then-is .is) (outcome-map (b .wrong) _ _ (λ age. (a .rooms, age)));
+    small-exact = is .small-exact;
+    small-points = is .small-points;
+  }
 
 -- values, in front of those still to come
 abbrev before : List ℤ → Got (List ℤ) → Got (List ℤ)

@@ -28,12 +28,15 @@ leftOver = 4
 abbrev pub tooLong : ℕ
 tooLong = 5
 
--- the greatest count or room, the greatest degree and the longest line
+-- the greatest count or room, the greatest degree, the greatest age and the longest line
 abbrev pub most : ℕ
 most = 64
 
 abbrev pub largest : ℕ
 largest = 4294967295
+
+abbrev pub greatestAge : ℕ
+greatestAge = 65535
 
 abbrev pub longest : ℕ
 longest = 4096
@@ -89,12 +92,21 @@ headed s =
     paired largest s then λ a s.
     paired largest s then λ b s. got (record { form = a .0; first = a .1; second = b .0; N = b .1 }) s
 
--- no rooms, or exactly two
+-- two rooms where two words or more are left, else none
 unfoldable pub roomed : List ℕ → Got Rooms
 roomed s =
-    cond (every isBlank s) (got (record { given = false; exact = ownRoom; points = ownRoom }) s)
-    (paired most s then λ a s.
-    cond (every isBlank s) (got (record { given = true; exact = a .0; points = a .1 }) s) (wrong leftOver))
+    cond (every isBlank (after s)) (got (record { given = false; exact = ownRoom; points = ownRoom }) s)
+    (paired most s then λ a s. got (record { given = true; exact = a .0; points = a .1 }) s)
+
+-- an age where a word is left, else 0; and nothing behind it
+unfoldable pub aged : List ℕ → Got ℕ
+aged s =
+    cond (every isBlank s) (got 0 [])
+    (natural greatestAge s then λ age s. cond (every isBlank s) (got age []) (wrong leftOver))
+
+-- the rooms and then the age
+unfoldable pub ended : List ℕ → Got (Rooms × ℕ)
+ended s = roomed s then λ rooms s. aged s then λ age s. got (rooms, age) s
 
 -- what a request says: its numbers, with the counts of the two lists, and the lists
 pub record Asked : Type 0 where
@@ -102,21 +114,21 @@ pub record Asked : Type 0 where
   pub surface : List ℤ
   pub path : List ℤ
 
-unfoldable pub together : Head → List ℤ → List ℤ → Rooms → Asked
-together head surface path rooms =
+unfoldable pub together : Head → List ℤ → List ℤ → Rooms → ℕ → Asked
+together head surface path rooms age =
     record {
-      request = record { head = head; surface = length surface; path = length path; rooms = rooms };
+      request = record { head = head; surface = length surface; path = length path; rooms = rooms; age = age };
       surface = surface;
       path = path;
     }
 
--- `form first second N`, a list of control values, a list of path numbers, and the rooms
+-- `form first second N`, a list of control values, a list of path numbers, the rooms and the age
 unfoldable pub asked : List ℕ → Got Asked
 asked s =
     headed s then λ head s.
     listed s then λ surface s.
     listed s then λ path s.
-    roomed s then λ rooms s. got (together head surface path rooms) s
+    ended s then λ e s. got (together head surface path (e .0) (e .1)) s
 
 -- what a line is
 pub data Meaning : Type 0 where

@@ -1,14 +1,14 @@
 -- How the readers' values show what is read: kinds of byte, capped numbers, a reason and a place. Assumes nothing.
 use mathlib.Core.Path.{_≡_}
 use mathlib.Core.Bool.{Bool, false, cond}
-use mathlib.Core.List.{List}
+use mathlib.Core.List.{List, []}
 use mathlib.Core.Option.{Option, none, some}
 use Prim.Native.Nat.{ℕ, suc, _-_, _≤_, min}
 use lib.Dec.{leb, eqb}
 use lib.IntN.{ℤ, pos, negsuc}
 use lib.ListN.{length, take, drop}
 use Rattle.text.specs.Words.{isBlank, isSolid, isDigit, isText, run, word, after, signed}
-use Rattle.text.specs.Line.{Got, got, wrong, outside, most, number, values, listed, paired, headed, roomed}
+use Rattle.text.specs.Line.{Got, got, wrong, outside, most, number, values, listed, paired, headed, roomed, aged, ended}
 use Rattle.text.specs.declared.word.Kind.{Kind}
 use Rattle.text.specs.declared.word.Kind.the-variants.{Blank, Solid, Digit, Text}
 use Rattle.text.specs.declared.word.Whole.{Whole}
@@ -20,6 +20,8 @@ use Rattle.text.specs.declared.numbers.Listed.{Listed}
 use Rattle.text.specs.declared.numbers.Pair.{Pair}
 use Rattle.text.specs.declared.numbers.Headed.{Headed}
 use Rattle.text.specs.declared.numbers.Roomed.{Roomed}
+use Rattle.text.specs.declared.numbers.Aged.{Aged}
+use Rattle.text.specs.declared.numbers.Ended.{Ended}
 
 abbrev pub isKind : Kind → ℕ → Bool
 isKind Blank = isBlank
@@ -94,8 +96,17 @@ pub record ReadsHead (s : List ℕ) (r : Headed) : Type 0 where
 
 pub record ReadsRooms (s : List ℕ) (r : Roomed) : Type 0 where
   pub is : roomed s ≡ outcome (r .wrong) (r .rooms) (drop (r .next) s)
+  pub inside : r .next ≤ length s
   pub small-exact : r .rooms .exact ≤ most
   pub small-points : r .rooms .points ≤ most
 
 abbrev pub noRooms : ℕ → Roomed
 noRooms reason = record { wrong = reason; rooms = record { given = false; exact = 0; points = 0 }; next = 0 }
+
+pub record ReadsAge (s : List ℕ) (r : Aged) : Type 0 where
+  pub is : aged s ≡ outcome (r .wrong) (r .age) []
+
+pub record ReadsEnd (s : List ℕ) (r : Ended) : Type 0 where
+  pub is : ended s ≡ outcome (r .wrong) (r .rooms, r .age) []
+  pub small-exact : r .rooms .exact ≤ most
+  pub small-points : r .rooms .points ≤ most

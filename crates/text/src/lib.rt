@@ -13,9 +13,9 @@ pub use decimal::write_number;
 pub use lines::Piece;
 pub use lines::split;
 use numbers::is_empty;
+use numbers::read_end;
 use numbers::read_head;
 use numbers::read_list;
-use numbers::read_rooms;
 pub use reply::write_answer;
 pub use reply::write_bytes;
 pub use reply::write_natural;
@@ -34,12 +34,14 @@ pub struct Rooms {
     pub points: usize,
 }
 
-// A request besides its two lists: surface and path are the counts of their numbers.
+// A request besides its two lists: surface and path are the counts of their numbers, age is that of the tilt sample in
+// milliseconds.
 pub struct Request {
     pub head: Head,
     pub surface: usize,
     pub path: usize,
     pub rooms: Rooms,
+    pub age: u16,
 }
 
 pub enum Line {
@@ -110,7 +112,7 @@ fn read_request(line: &[u8]) -> Reading
         return not_read(numbers.wrong);
     }
     let c = b + numbers.next;
-    let last = read_rooms(&line[c..]);
+    let last = read_end(&line[c..]);
     if last.wrong != 0 {
         return not_read(last.wrong);
     }
@@ -122,6 +124,7 @@ fn read_request(line: &[u8]) -> Reading
             surface: values.count,
             path: numbers.count,
             rooms,
+            age: last.age,
         }),
         surface,
         path,

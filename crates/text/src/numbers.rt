@@ -1,16 +1,17 @@
-// The numbers of a request, read from left to right: the head, the two lists and the rooms. Each reader answers what is
-// wrong, 0 for nothing, and where reading goes on.
+// The numbers of a request, read from left to right: the head, the two lists, the rooms and the age. Each reader answers
+// what is wrong, 0 for nothing, and where reading goes on.
 ghost use mathlib.Core.Path.{_≡_};
 ghost use mathlib.Core.Bool.{cond};
 ghost use Prim.Native.Nat.{_≤_, _<_};
 ghost use lib.ListN.{length, set};
-ghost use Rattle.text.specs.Words.{isBlank, every, signed};
+ghost use Rattle.text.specs.Words.{isBlank, every, after, signed};
 ghost use Rattle.text.specs.Line.{most};
-ghost use Rattle.text.specs.Read.{cap, ReadsValues, ReadsList, ReadsPair, ReadsHead, ReadsRooms, noPair, noRooms};
+ghost use Rattle.text.specs.Read.{cap, ReadsValues, ReadsList, ReadsPair, ReadsHead, ReadsRooms, ReadsAge, ReadsEnd, noPair, noRooms};
 use crate::Head;
 use crate::LEFT_OVER;
 use crate::Rooms;
 use crate::word::Kind;
+use crate::word::next_word;
 use crate::word::number;
 use crate::word::run;
 
@@ -45,6 +46,17 @@ pub struct Roomed {
     pub wrong: u8,
     pub rooms: Rooms,
     pub next: usize,
+}
+
+pub struct Aged {
+    pub wrong: u8,
+    pub age: u16,
+}
+
+pub struct Ended {
+    pub wrong: u8,
+    pub rooms: Rooms,
+    pub age: u16,
 }
 
 // The number of a sign and a size.
@@ -191,6 +203,14 @@ pub fn is_empty(s: &[u8]) -> bool
     run(s, Kind::Blank) == s.len()
 }
 
+// Whether there is at most one word.
+fn is_one(s: &[u8]) -> bool
+    ensures { λ r. ⌜ r ≡ every isBlank (after (now (s .entry))) ⌝ }
+{
+    let end = next_word(s).end;
+    is_empty(&s[end..])
+}
+
 fn no_rooms(wrong: u8) -> Roomed
     ensures { λ r. ⌜ r ≡ noRooms wrong ⌝ }
 {
@@ -205,11 +225,11 @@ fn no_rooms(wrong: u8) -> Roomed
     }
 }
 
-// The rooms: none, or exactly two.
-pub fn read_rooms(s: &[u8]) -> Roomed
+// The rooms: two where two words or more are left, else none.
+fn read_rooms(s: &[u8]) -> Roomed
     ensures { λ r. ⌜ ReadsRooms (now (s .entry)) r ⌝ }
 {
-    if is_empty(s) {
+    if is_one(s) {
         return Roomed {
             wrong: 0,
             rooms: Rooms {
@@ -224,10 +244,6 @@ pub fn read_rooms(s: &[u8]) -> Roomed
     if given.wrong != 0 {
         return no_rooms(given.wrong);
     }
-    let from = given.next;
-    if !is_empty(&s[from..]) {
-        return no_rooms(LEFT_OVER);
-    }
     Roomed {
         wrong: 0,
         rooms: Rooms {
@@ -235,6 +251,52 @@ pub fn read_rooms(s: &[u8]) -> Roomed
             exact: given.first as usize,
             points: given.second as usize,
         },
-        next: from,
+        next: given.next,
+    }
+}
+
+fn of_age(wrong: u8, age: u16) -> Aged
+    ensures { λ r. ⌜ r ≡ record { wrong = wrong; age = age } ⌝ }
+{
+    Aged { wrong, age }
+}
+
+// The age: one where a word is left, else 0; and nothing behind it.
+fn read_age(s: &[u8]) -> Aged
+    ensures { λ r. ⌜ ReadsAge (now (s .entry)) r ⌝ }
+{
+    if is_empty(s) {
+        return of_age(0, 0);
+    }
+    let given = number(s, 0, 65535);
+    if given.wrong != 0 {
+        return of_age(given.wrong, 0);
+    }
+    let from = given.next;
+    if !is_empty(&s[from..]) {
+        return of_age(LEFT_OVER, 0);
+    }
+    of_age(0, given.size as u16)
+}
+
+// The rooms and then the age.
+pub fn read_end(s: &[u8]) -> Ended
+    ensures { λ r. ⌜ ReadsEnd (now (s .entry)) r ⌝ }
+{
+    let lent = read_rooms(s);
+    let rooms = lent.rooms;
+    if lent.wrong != 0 {
+        return Ended {
+            wrong: lent.wrong,
+            rooms,
+            age: 0,
+        };
+    }
+    let from = lent.next;
+    let last = read_age(&s[from..]);
+    Ended {
+        wrong: last.wrong,
+        rooms,
+        age: last.age,
     }
 }

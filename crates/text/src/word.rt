@@ -146,7 +146,7 @@ fn whole_of(word: &[u8]) -> Whole
 }
 
 // Where the next word of s stands.
-fn next_word(s: &[u8]) -> Place
+pub fn next_word(s: &[u8]) -> Place
     ensures { λ r. ⌜ Stands (now (s .entry)) r ⌝ }
 {
     let start = run(s, Kind::Blank);

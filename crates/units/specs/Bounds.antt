@@ -13,6 +13,14 @@ one = 1024
 abbrev pub most : ℕ
 most = 4096
 
+-- the greatest age of a tilt sample, in milliseconds
+abbrev pub oldest : ℕ
+oldest = 250
+
+-- 02, ticket 3: "age above 250", in milliseconds
+unfoldable pub stale : ℕ → Bool
+stale age = ltb oldest age
+
 -- "Control values: −4,096 to 4,096."
 unfoldable pub beyondTravel : ℤ → Bool
 beyondTravel z = ltb most (natAbs z)

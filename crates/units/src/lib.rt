@@ -1,10 +1,10 @@
-// The two kinds of number of a ride, each a type of its own, so that one is never taken for the other: a path number in
-// 1/1024 and a travel in 0.01 mm. Their bounds, and how each is read from a lent slice and turned into a whole number.
+// The kinds of number of a ride, each a type of its own, so that one is never taken for another: a path number in 1/1024, a
+// travel in 0.01 mm, and the age of the tilt sample in milliseconds. Their bounds, and how each is read.
 ghost use mathlib.Core.Path.{_≡_};
 ghost use Prim.Native.Nat.{_≤_};
 ghost use lib.IntN.{pos, natAbs};
 ghost use lib.ListN.{getD};
-ghost use Rattle.units.specs.Bounds.{beyondTravel, beyondPath, most};
+ghost use Rattle.units.specs.Bounds.{beyondTravel, beyondPath, most, stale};
 use whole::Num;
 
 // A place along the path's own numbers: 1024 is one.
@@ -12,6 +12,9 @@ pub struct PathNumber(pub i32);
 
 // How far the car is pushed sideways: 4096 is 40.96 mm.
 pub struct Travel(pub i32);
+
+// How old the tilt sample of a ride is, in milliseconds: 0 to 65,535.
+pub struct Age(pub u16);
 
 // Control value k of a surface, and no travel past its end.
 pub fn travel_at(surface: &[i32], k: usize) -> Travel
@@ -84,4 +87,11 @@ pub fn travel_of(n: Num) -> Travel
     ensures { λ t. ⌜ t .0 ≡ n .0 ⌝ }
 {
     Travel(n.0 as i32)
+}
+
+// Whether a tilt sample is too old to ride on.
+pub fn is_stale(age: Age) -> bool
+    ensures { λ r. ⌜ r ≡ stale (age .0) ⌝ }
+{
+    250 < age.0
 }

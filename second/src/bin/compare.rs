@@ -4,13 +4,14 @@
 //! difference, with 2 when a file cannot be had.
 
 use second::line::{passed_over, UNREADABLE};
+use second::Refusal;
 use std::process::ExitCode;
 use std::{env, fs};
 
 /// How many answers carry each number, are unreadable, or are neither.
 #[derive(Default)]
 struct Tally {
-    numbers: [u64; 9],
+    numbers: [u64; 11],
     unreadable: u64,
     other: u64,
 }
@@ -20,6 +21,7 @@ impl Tally {
         let answer = answer.strip_suffix(b"\n").unwrap_or(answer);
         match answer {
             [digit @ b'0'..=b'8', b' ', ..] => self.numbers[usize::from(digit - b'0')] += 1,
+            [b'1', b'0', b' ', ..] => self.numbers[10] += 1,
             _ if answer == UNREADABLE.as_bytes() => self.unreadable += 1,
             _ => self.other += 1,
         }
@@ -28,8 +30,9 @@ impl Tally {
     fn print(&self) {
         let all = self.numbers.iter().sum::<u64>() + self.unreadable + self.other;
         println!("compared {all} answers");
-        for (number, times) in self.numbers.iter().enumerate() {
-            println!("number {number}: {times}");
+        println!("number 0: {}", self.numbers[0]);
+        for number in Refusal::ALL.map(Refusal::number) {
+            println!("number {number}: {}", self.numbers[number as usize]);
         }
         println!("unreadable: {}", self.unreadable);
         if self.other > 0 {

@@ -2,7 +2,7 @@
 
 use crate::line::{Asked, MOST};
 use crate::quantity::{REACH, SCALE};
-use crate::request::{MOST_ARGUMENTS, MOST_PATH_DEGREE};
+use crate::request::{MOST_AGE, MOST_ARGUMENTS, MOST_PATH_DEGREE};
 use crate::shape::{Form, Shape};
 use crate::xorshift::Xorshift;
 
@@ -39,6 +39,7 @@ fn of(shape: &Shape, surface: Vec<i32>, path: Vec<i32>) -> Asked {
         first: shape.first as u32,
         second: shape.second as u32,
         n: shape.path_degree as u32,
+        age: 0,
         surface,
         path,
         rooms: None,
@@ -138,6 +139,16 @@ pub fn halves(rng: &mut Xorshift, shape: &Shape) -> Asked {
         .collect();
     let step = rng.pick(&[512, 512, 256]);
     of(shape, surface, path(rng, shape, step))
+}
+
+/// An age that is accepted; often 0 or near the bound.
+pub fn age(rng: &mut Xorshift) -> u16 {
+    match rng.below(8) {
+        0..=3 => 0,
+        4 => MOST_AGE - 1,
+        5 => MOST_AGE,
+        _ => rng.below(usize::from(MOST_AGE) + 1) as u16,
+    }
 }
 
 /// Rooms that are exact or longer.

@@ -3,8 +3,24 @@
 use crate::line::{Asked, OWN_ROOM};
 use crate::quantity::{REACH, SCALE};
 use crate::refusal::Refusal;
+use crate::request::MOST_AGE;
 use crate::shape::{Form, Shape};
 use crate::xorshift::Xorshift;
+
+/// Ages at both sides of the bound and at both ends.
+pub const AGES: [u16; 6] = [0, 249, 250, 251, 252, u16::MAX];
+
+/// An age that is STALE; often near the bound.
+pub fn stale(rng: &mut Xorshift) -> u16 {
+    match rng.below(8) {
+        0..=2 => MOST_AGE + 1,
+        3 => MOST_AGE + 2,
+        4 => u16::MAX,
+        // 250 at most in its low byte, or in its high byte alone.
+        5 => rng.pick(&[256, 506, 512, 1 << 15]),
+        _ => rng.between(i32::from(MOST_AGE) + 1, i32::from(u16::MAX)) as u16,
+    }
+}
 
 /// A shape just beyond the limits, its counts still small.
 pub fn shape_beyond(rng: &mut Xorshift, form: Form) -> Shape {
@@ -54,6 +70,7 @@ pub fn spoil(rng: &mut Xorshift, asked: &mut Asked, shape: &Shape, refusal: Refu
                 asked.rooms = Some((64, 64));
             }
         }
+        Refusal::Stale => asked.age = stale(rng),
         Refusal::Surface => wrong_count(rng, &mut asked.surface, alone),
         Refusal::Path => wrong_count(rng, &mut asked.path, alone),
         Refusal::Room => {
@@ -125,6 +142,7 @@ pub fn touch(rng: &mut Xorshift, asked: &mut Asked, shape: &Shape, refusal: Refu
     let least = shape.length() + 1;
     match refusal {
         Refusal::Kind | Refusal::Degree | Refusal::Surface | Refusal::Path => {}
+        Refusal::Stale => asked.age = rng.pick(&[0, MOST_AGE - 1, MOST_AGE, MOST_AGE]),
         Refusal::Room => {
             asked.rooms = Some(rng.pick(&[(least, least), (least, 64), (64, least)]));
         }
@@ -187,6 +205,7 @@ pub fn huge(rng: &mut Xorshift, turn: usize) -> Asked {
         first,
         second,
         n,
+        age: rng.pick(&AGES),
         surface: vec![control_value; control.min(64) as usize],
         path: vec![path_number; path.min(64) as usize],
         rooms: rng.pick(&[None, None, Some((64, 64)), Some((0, 0))]),

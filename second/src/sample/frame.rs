@@ -3,7 +3,7 @@
 use super::fault;
 use crate::door::FRAME;
 use crate::line::Asked;
-use crate::record::{self, put, settle, HEAD};
+use crate::record::{self, put, settle, word, AGED, AGED_HEAD, HEAD};
 use crate::refusal::Refusal;
 use crate::shape::Shape;
 use crate::xorshift::Xorshift;
@@ -16,6 +16,7 @@ pub enum Fault {
     Kind,
     Form,
     Degree,
+    Stale,
     Body,
     Value,
     Parameter,
@@ -23,12 +24,13 @@ pub enum Fault {
 }
 
 impl Fault {
-    /// All eight, in their order.
-    pub const ALL: [Fault; 8] = [
+    /// All nine, in their order.
+    pub const ALL: [Fault; 9] = [
         Fault::Length,
         Fault::Kind,
         Fault::Form,
         Fault::Degree,
+        Fault::Stale,
         Fault::Body,
         Fault::Value,
         Fault::Parameter,
@@ -41,6 +43,7 @@ impl Fault {
             Fault::Length | Fault::Kind | Fault::Body => None,
             Fault::Form => Some(Refusal::Kind),
             Fault::Degree => Some(Refusal::Degree),
+            Fault::Stale => Some(Refusal::Stale),
             Fault::Value => Some(Refusal::Value),
             Fault::Parameter => Some(Refusal::Parameter),
             Fault::Balance => Some(Refusal::Balance),
@@ -59,6 +62,7 @@ impl Fault {
             Fault::Kind => "9 FRAME by kind",
             Fault::Form => "1 KIND",
             Fault::Degree => "2 DEGREE",
+            Fault::Stale => "10 STALE",
             Fault::Body => "9 FRAME by body",
             Fault::Value => "6 VALUE",
             Fault::Parameter => "7 PARAMETER",
@@ -71,16 +75,26 @@ impl Fault {
 const NO_FORMS: [u32; 10] = [0, 4, 5, 9, 127, 128, 129, 131, 254, 255];
 
 /// Kinds that no request has.
-const NO_KINDS: [u16; 10] = [
-    0x0000, 0x0002, 0x0003, 0x0100, 0x0101, 0x8000, 0x8001, 0x8101, 0x0180, 0xffff,
+const NO_KINDS: [u16; 12] = [
+    0x0000, 0x0003, 0x0004, 0x0100, 0x0101, 0x0200, 0x0102, 0x8000, 0x8001, 0x8002, 0x0180, 0xffff,
 ];
+
+/// The record of a request: with its age, or mostly without if it is 0.
+pub fn write(rng: &mut Xorshift, asked: &Asked) -> Vec<u8> {
+    if asked.age == 0 && rng.below(4) > 0 {
+        record::request(asked)
+    } else {
+        record::aged(asked)
+    }
+}
 
 /// The record of a request of this shape, with each of these faults. The
 /// shape itself is beyond the limits if DEGREE is among them.
 pub fn spoilt(rng: &mut Xorshift, mut asked: Asked, shape: &Shape, faults: &[Fault]) -> Vec<u8> {
     let alone = faults.len() == 1;
     let has = |fault| faults.contains(&fault);
-    for fault in [Fault::Balance, Fault::Parameter, Fault::Value] {
+    let inner = [Fault::Balance, Fault::Parameter, Fault::Value, Fault::Stale];
+    for fault in inner {
         if let (true, Some(refusal)) = (has(fault), fault.refusal()) {
             fault::spoil(rng, &mut asked, shape, refusal, alone);
         }
@@ -89,7 +103,7 @@ pub fn spoilt(rng: &mut Xorshift, mut asked: Asked, shape: &Shape, faults: &[Fau
     if has(Fault::Form) {
         asked.form = rng.pick(&NO_FORMS);
     }
-    let mut record = record::request(&asked);
+    let mut record = write(rng, &asked);
     if has(Fault::Body) {
         wrong_body(rng, &mut record, alone);
     }
@@ -112,7 +126,12 @@ fn fit(asked: &mut Asked) {
 /// Makes a body too long or, alone, too short; the length stays true.
 fn wrong_body(rng: &mut Xorshift, record: &mut Vec<u8>, alone: bool) {
     if alone && rng.once_in(2) {
-        let body = record.len() - HEAD;
+        let head = if word(record, 2) == AGED {
+            AGED_HEAD
+        } else {
+            HEAD
+        };
+        let body = record.len() - head;
         let less = rng.pick(&[1, 2, 3, 4, body]).min(body);
         record.truncate(record.len() - less);
     } else {
@@ -177,13 +196,15 @@ pub fn vast(rng: &mut Xorshift, turn: usize) -> Vec<u8> {
     };
     let path = n.wrapping_add(1).wrapping_mul(form);
     let number = rng.between(0, 1024);
-    record::request(&Asked {
+    let asked = Asked {
         form: form.into(),
         first: first.into(),
         second: second.into(),
         n: n.into(),
+        age: rng.pick(&fault::AGES),
         surface: vec![number; control.min(64).into()],
         path: vec![number; path.min(64).into()],
         rooms: None,
-    })
+    };
+    write(rng, &asked)
 }

@@ -8,6 +8,7 @@ mod text;
 
 use crate::line::{read, Asked};
 use crate::refusal::Refusal;
+use crate::request::MOST_AGE;
 use crate::shape::{Form, Shape};
 use crate::xorshift::Xorshift;
 
@@ -29,7 +30,7 @@ pub struct Sample {
 }
 
 /// The kinds and how often each is drawn.
-const KINDS: [(Kind, usize); 12] = [
+const KINDS: [(Kind, usize); 13] = [
     (Kind::Accepted, 30),
     (Kind::Extreme, 10),
     (Kind::Halves, 6),
@@ -39,6 +40,7 @@ const KINDS: [(Kind, usize); 12] = [
     (Kind::Several, 4),
     (Kind::Counts, 5),
     (Kind::Huge, 5),
+    (Kind::Ages, 12),
     (Kind::Rooms, 7),
     (Kind::Odd, 3),
     (Kind::Unreadable, 4),
@@ -64,6 +66,8 @@ enum Kind {
     Counts,
     /// Huge degrees, also such that a narrow sum or product would wrap.
     Huge,
+    /// Ages at both sides of the bound, with each other refusal and with none.
+    Ages,
     /// Rooms short, exact and long.
     Rooms,
     /// Readable, though not as one would write it.
@@ -132,6 +136,7 @@ impl Sampler {
             Kind::Several => self.several(),
             Kind::Counts => self.counts(turn),
             Kind::Huge => self.huge(turn),
+            Kind::Ages => self.ages(turn),
             Kind::Rooms => self.rooms(turn),
             Kind::Odd => self.odd(turn),
             Kind::Unreadable => self.unreadable(turn),
@@ -153,9 +158,16 @@ impl Sampler {
         }
     }
 
+    /// A request of this shape with legal numbers and a legal age.
+    fn any_asked(&mut self, shape: &Shape) -> Asked {
+        let mut asked = draft::any(&mut self.rng, shape);
+        asked.age = draft::age(&mut self.rng);
+        asked
+    }
+
     fn accepted(&mut self, turn: usize) -> Sample {
         let shape = self.shapes[turn % self.shapes.len()];
-        let mut asked = draft::any(&mut self.rng, &shape);
+        let mut asked = self.any_asked(&shape);
         if self.rng.once_in(4) {
             asked.rooms = Some(draft::long_rooms(&mut self.rng, &shape));
         }
@@ -166,7 +178,8 @@ impl Sampler {
     fn extreme(&mut self, turn: usize) -> Sample {
         let pattern = turn % draft::PATTERNS.len();
         let shape = self.shapes[turn / draft::PATTERNS.len() % self.shapes.len()];
-        let asked = draft::extreme(&mut self.rng, &shape, pattern);
+        let mut asked = draft::extreme(&mut self.rng, &shape, pattern);
+        asked.age = draft::age(&mut self.rng);
         sample(format!("extreme, {}", draft::PATTERNS[pattern]), 0, &asked)
     }
 
@@ -182,7 +195,7 @@ impl Sampler {
     }
 
     fn bound(&mut self, turn: usize) -> Sample {
-        let refusal = Refusal::ALL[turn % 8];
+        let refusal = Refusal::ALL[turn % Refusal::ALL.len()];
         let shape = match refusal {
             Refusal::Degree => loop {
                 let shape = self.any_shape();
@@ -193,13 +206,13 @@ impl Sampler {
             Refusal::Balance => self.any_shape_of(Form::Triangle),
             _ => self.any_shape(),
         };
-        let mut asked = draft::any(&mut self.rng, &shape);
+        let mut asked = self.any_asked(&shape);
         fault::touch(&mut self.rng, &mut asked, &shape, refusal);
         sample(format!("at the bound of {}", title(refusal)), 0, &asked)
     }
 
     fn alone(&mut self, turn: usize) -> Sample {
-        let refusal = Refusal::ALL[turn % 8];
+        let refusal = Refusal::ALL[turn % Refusal::ALL.len()];
         let asked = self.spoilt(&[refusal]);
         sample(
             format!("alone {}", title(refusal)),
@@ -209,7 +222,7 @@ impl Sampler {
     }
 
     fn pair(&mut self, turn: usize) -> Sample {
-        let pairs: Vec<[Refusal; 2]> = (0..8)
+        let pairs: Vec<[Refusal; 2]> = (0..Refusal::ALL.len())
             .flat_map(|high| (0..high).map(move |low| [Refusal::ALL[low], Refusal::ALL[high]]))
             .collect();
         let [low, high] = pairs[turn % pairs.len()];
@@ -244,7 +257,7 @@ impl Sampler {
         } else {
             self.any_shape_of(form)
         };
-        let mut asked = draft::any(&mut self.rng, &shape);
+        let mut asked = self.any_asked(&shape);
         for &refusal in faults.iter().rev() {
             fault::spoil(
                 &mut self.rng,
@@ -259,7 +272,7 @@ impl Sampler {
 
     fn counts(&mut self, turn: usize) -> Sample {
         let shape = self.any_shape();
-        let mut asked = draft::any(&mut self.rng, &shape);
+        let mut asked = self.any_asked(&shape);
         let (refusal, list) = match turn % 2 {
             0 => (Refusal::Surface, &mut asked.surface),
             _ => (Refusal::Path, &mut asked.path),
@@ -282,9 +295,35 @@ impl Sampler {
         sample("huge degrees".to_string(), Refusal::Degree.number(), &asked)
     }
 
+    fn ages(&mut self, turn: usize) -> Sample {
+        let age = fault::AGES[turn % fault::AGES.len()];
+        let others = Refusal::ALL.len();
+        // STALE itself stands for no other refusal.
+        let other = match Refusal::ALL[turn / fault::AGES.len() % others] {
+            Refusal::Stale => None,
+            other => Some(other),
+        };
+        let mut asked = match other {
+            Some(other) => self.spoilt(&[other]),
+            None => {
+                let shape = self.any_shape();
+                self.any_asked(&shape)
+            }
+        };
+        asked.age = age;
+        let number = match other {
+            Some(first @ (Refusal::Kind | Refusal::Degree)) => first.number(),
+            _ if age > MOST_AGE => Refusal::Stale.number(),
+            Some(later) => later.number(),
+            None => 0,
+        };
+        let with = other.map_or("none".to_string(), title);
+        sample(format!("age {age} with {with}"), number, &asked)
+    }
+
     fn rooms(&mut self, turn: usize) -> Sample {
         let shape = self.any_shape();
-        let mut asked = draft::any(&mut self.rng, &shape);
+        let mut asked = self.any_asked(&shape);
         let length = shape.length();
         let (name, rooms) = match turn % 10 {
             0 => ("numerators short by one", (length, 64)),

@@ -4,8 +4,9 @@ use super::frame::{self, Fault};
 use super::{draft, fault, share};
 use crate::door::{door, FRAME, ROOM};
 use crate::line::Asked;
-use crate::record::{self, put, settle, HEAD, REQUEST};
+use crate::record::{put, settle, word, AGED, AGED_HEAD, HEAD, REQUEST};
 use crate::refusal::Refusal;
+use crate::request::MOST_AGE;
 use crate::shape::{Form, Shape};
 use crate::xorshift::Xorshift;
 
@@ -21,18 +22,20 @@ pub struct Record {
 }
 
 /// The kinds and how often each is drawn.
-const KINDS: [(Kind, usize); 14] = [
+const KINDS: [(Kind, usize); 16] = [
     (Kind::Good, 200),
     (Kind::Changed, 260),
+    (Kind::Swapped, 30),
     (Kind::Cut, 60),
     (Kind::Longer, 50),
     (Kind::Noise, 50),
     (Kind::Headed, 50),
     (Kind::Edges, 80),
     (Kind::Bound, 60),
-    (Kind::Short, 20),
+    (Kind::Short, 40),
+    (Kind::Ages, 90),
     (Kind::Alone, 90),
-    (Kind::Pair, 90),
+    (Kind::Pair, 110),
     (Kind::Several, 30),
     (Kind::Vast, 30),
     (Kind::Endless, 2),
@@ -44,6 +47,8 @@ enum Kind {
     Good,
     /// A good record with one byte changed; all changes in turn.
     Changed,
+    /// A good record with the kind of the other request.
+    Swapped,
     /// A good record cut off, its length kept or made true; all cuts in turn.
     Cut,
     /// A good record with bytes after it, its length kept or made true.
@@ -56,8 +61,10 @@ enum Kind {
     Edges,
     /// On the good side of one refusal's bound.
     Bound,
-    /// Fewer than 8 bytes.
+    /// Fewer than 8 bytes, or fewer than 10 where an age is to be carried.
     Short,
+    /// Ages at both sides of the bound, with each other fault and with none.
+    Ages,
     /// One fault by itself.
     Alone,
     /// Two faults at once: the order decides.
@@ -109,6 +116,7 @@ impl Records {
         let (kind, expect, bytes) = match KINDS[at].0 {
             Kind::Good => self.good(turn),
             Kind::Changed => self.changed(),
+            Kind::Swapped => self.swapped(),
             Kind::Cut => self.cut(),
             Kind::Longer => self.longer(turn),
             Kind::Noise => self.noise(),
@@ -116,6 +124,7 @@ impl Records {
             Kind::Edges => self.edges(),
             Kind::Bound => self.bound(turn),
             Kind::Short => self.short(turn),
+            Kind::Ages => self.ages(turn),
             Kind::Alone => self.alone(turn),
             Kind::Pair => self.pair(turn),
             Kind::Several => self.several(),
@@ -163,27 +172,31 @@ impl Records {
 
     /// Any accepted request of this shape.
     fn any_asked(&mut self, shape: &Shape) -> Asked {
-        match self.rng.below(4) {
+        let mut asked = match self.rng.below(4) {
             0 => {
                 let pattern = self.rng.below(draft::PATTERNS.len());
                 draft::extreme(&mut self.rng, shape, pattern)
             }
             1 => draft::halves(&mut self.rng, shape),
             _ => draft::any(&mut self.rng, shape),
-        }
+        };
+        asked.age = draft::age(&mut self.rng);
+        asked
     }
 
     /// Any good record.
     fn any_good(&mut self) -> Vec<u8> {
         let shape = self.any_shape();
-        record::request(&self.any_asked(&shape))
+        let asked = self.any_asked(&shape);
+        frame::write(&mut self.rng, &asked)
     }
 
     fn good(&mut self, turn: usize) -> Draft {
         let shape = self.shapes[turn % self.shapes.len()];
         let asked = self.any_asked(&shape);
-        let kind = format!("good, form {}", asked.form);
-        (kind, Some(0), record::request(&asked))
+        let bytes = frame::write(&mut self.rng, &asked);
+        let kind = format!("good, kind {}, form {}", bytes[2], asked.form);
+        (kind, Some(0), bytes)
     }
 
     /// One byte of a good record is changed. Each byte is changed in all its
@@ -199,14 +212,30 @@ impl Records {
         let at = self.changes.step % bytes.len();
         bytes[at] ^= 1 + (self.changes.step / bytes.len()) as u8;
         self.changes.step += 1;
+        let aged = word(&self.changes.good, 2) == AGED;
         let (what, expect) = match at {
             0..=1 => ("length", Some(FRAME.number)),
+            2..=3 if [REQUEST, AGED].contains(&word(&bytes, 2)) => {
+                return other_request(bytes);
+            }
             2..=3 => ("kind", Some(FRAME.number)),
             4 => ("form", None),
             5..=7 => ("degree", None),
+            8..=9 if aged => {
+                let stale = word(&bytes, HEAD) > MOST_AGE;
+                let number = if stale { Refusal::Stale.number() } else { 0 };
+                ("age", Some(number))
+            }
             _ => ("number", None),
         };
         (format!("changed, {what}"), expect, bytes)
+    }
+
+    fn swapped(&mut self) -> Draft {
+        let mut bytes = self.any_good();
+        let kind = word(&bytes, 2);
+        put(&mut bytes, 2, REQUEST + AGED - kind);
+        other_request(bytes)
     }
 
     /// A good record is cut at each byte, its length kept and made true.
@@ -248,11 +277,14 @@ impl Records {
         let mut bytes = self.random();
         bytes.resize(bytes.len().max(4), 0);
         settle(&mut bytes);
-        put(&mut bytes, 2, REQUEST);
+        put(&mut bytes, 2, self.rng.pick(&[REQUEST, AGED]));
         for at in 4..bytes.len().min(HEAD) {
             if self.rng.below(4) > 0 {
                 bytes[at] = self.rng.below(5) as u8;
             }
+        }
+        if bytes.len() >= AGED_HEAD && self.rng.once_in(2) {
+            put(&mut bytes, HEAD, self.rng.pick(&fault::AGES));
         }
         ("random after a true head".to_string(), None, bytes)
     }
@@ -273,7 +305,10 @@ impl Records {
                 Some(at) => asked.path[at] = edge,
             }
         }
-        let bytes = record::request(&asked);
+        if self.rng.once_in(4) {
+            asked.age = self.rng.pick(&fault::AGES);
+        }
+        let bytes = frame::write(&mut self.rng, &asked);
         ("numbers at their edges".to_string(), None, bytes)
     }
 
@@ -294,14 +329,47 @@ impl Records {
             fault::touch(&mut self.rng, &mut asked, &shape, refusal);
         }
         let kind = format!("at the bound of {}", fault.name());
-        (kind, Some(0), record::request(&asked))
+        (kind, Some(0), frame::write(&mut self.rng, &asked))
     }
 
+    /// Too short to be a request, whatever the form and the degrees are.
     fn short(&mut self, turn: usize) -> Draft {
         let mut bytes = self.any_good();
-        bytes.truncate(turn / 2 % HEAD);
-        let kind = format!("short, {}", length(&mut bytes, turn % 2 == 1));
+        let head = if word(&bytes, 2) == AGED {
+            AGED_HEAD
+        } else {
+            HEAD
+        };
+        bytes.truncate(turn / 2 % head);
+        if bytes.len() > 4 && self.rng.once_in(2) {
+            let at = 4 + self.rng.below(bytes.len() - 4);
+            bytes[at] = self.rng.bits() as u8;
+        }
+        let what = length(&mut bytes, turn % 2 == 1);
+        let kind = format!("short, {} bytes, {what}", bytes.len());
         (kind, Some(FRAME.number), bytes)
+    }
+
+    fn ages(&mut self, turn: usize) -> Draft {
+        let age = fault::AGES[turn % fault::AGES.len()];
+        // STALE itself stands for no other fault.
+        let other = match Fault::ALL[turn / fault::AGES.len() % Fault::ALL.len()] {
+            Fault::Stale => None,
+            other => Some(other),
+        };
+        let faults: Vec<Fault> = other.into_iter().collect();
+        let bytes = self.spoilt_at(age, &faults);
+        let stale = age > MOST_AGE;
+        let number = match other {
+            Some(first @ (Fault::Length | Fault::Kind | Fault::Form | Fault::Degree)) => {
+                first.number()
+            }
+            _ if stale => Refusal::Stale.number(),
+            Some(later) => later.number(),
+            None => 0,
+        };
+        let with = other.map_or("none", Fault::name);
+        (format!("age {age} with {with}"), Some(number), bytes)
     }
 
     fn alone(&mut self, turn: usize) -> Draft {
@@ -338,6 +406,12 @@ impl Records {
 
     /// A record with each of these faults, in their order.
     fn spoilt(&mut self, faults: &[Fault]) -> Vec<u8> {
+        let age = draft::age(&mut self.rng);
+        self.spoilt_at(age, faults)
+    }
+
+    /// The same at this age, unless STALE is among the faults.
+    fn spoilt_at(&mut self, age: u16, faults: &[Fault]) -> Vec<u8> {
         let form = if faults.contains(&Fault::Balance) {
             Form::Triangle
         } else {
@@ -348,7 +422,8 @@ impl Records {
         } else {
             self.any_shape_of(form)
         };
-        let asked = draft::any(&mut self.rng, &shape);
+        let mut asked = draft::any(&mut self.rng, &shape);
+        asked.age = age;
         frame::spoilt(&mut self.rng, asked, &shape, faults)
     }
 
@@ -371,6 +446,19 @@ impl Records {
         put(&mut bytes, 0, count as u16);
         (format!("endless, {name}"), Some(FRAME.number), bytes)
     }
+}
+
+/// A good record to which the kind of the other request was given: its body
+/// is too long or too short by the age, but an age that was a control value
+/// may come before.
+fn other_request(bytes: Vec<u8>) -> Draft {
+    let stale = word(&bytes, 2) == AGED && word(&bytes, HEAD) > MOST_AGE;
+    let number = if stale {
+        Refusal::Stale.number()
+    } else {
+        FRAME.number
+    };
+    ("kind of the other request".to_string(), Some(number), bytes)
 }
 
 /// Makes the length of these bytes true if wanted, as far as there is room

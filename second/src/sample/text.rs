@@ -55,7 +55,7 @@ fn words(asked: &Asked) -> Vec<Vec<u8>> {
 pub fn odd(rng: &mut Xorshift, asked: &Asked, turn: usize) -> (&'static str, Vec<u8>) {
     let mut words = words(asked);
     let at = rng.below(words.len());
-    match turn % 7 {
+    match turn % 9 {
         0 => ("tabs", words.join(&b'\t')),
         1 => ("many blanks", words.join(&b" \t  "[..])),
         2 => {
@@ -74,6 +74,15 @@ pub fn odd(rng: &mut Xorshift, asked: &Asked, turn: usize) -> (&'static str, Vec
             ("minus zero", words.join(&b' '))
         }
         5 => {
+            let zero: [&[u8]; 3] = [b"0", b"-0", b"00"];
+            words.push(rng.pick(&zero).to_vec());
+            ("age 0 written", words.join(&b' '))
+        }
+        6 => {
+            words.extend([b"13".to_vec(), b"64".to_vec(), b"0".to_vec()]);
+            ("rooms and age 0 written", words.join(&b' '))
+        }
+        7 => {
             let spare = LONGEST - words.join(&b' ').len();
             words[at].extend(vec![b' '; spare]);
             ("just as long as may be, by blanks", words.join(&b' '))
@@ -92,7 +101,8 @@ fn zeros(word: &mut Vec<u8>, count: usize) {
     word.splice(sign..sign, vec![b'0'; count]);
 }
 
-/// A line that cannot be read, and its name. The request names no rooms.
+/// A line that cannot be read, and its name. The request names no rooms and
+/// is of age 0.
 pub fn unreadable(rng: &mut Xorshift, asked: &Asked, turn: usize) -> (&'static str, Vec<u8>) {
     let mut words = words(asked);
     let count_at = [4, 5 + asked.surface.len()];
@@ -132,15 +142,21 @@ pub fn unreadable(rng: &mut Xorshift, asked: &Asked, turn: usize) -> (&'static s
             return ("too few words", words.join(&b' '));
         }
         9 => {
-            words.push(b"13".to_vec());
-            return ("one word left over", words.join(&b' '));
+            words.extend(vec![b"13".to_vec(); rng.pick(&[1, 3])]);
+            let far: [&[u8]; 5] = [b"-1", b"65536", b"65786", b"4294967296", b"x"];
+            ("age too far", words.len() - 1, rng.pick(&far))
         }
         10 => {
-            words.extend(vec![b"13".to_vec(); 3 + rng.below(3)]);
+            words.extend(vec![b"13".to_vec(); 4 + rng.below(3)]);
             return ("many words left over", words.join(&b' '));
         }
         11 => {
-            let count = asked.path.len() as i32 + rng.pick(&[-1, 1]);
+            // One word is missing, or four are left over.
+            let mut count = asked.path.len() + 1;
+            if rng.once_in(2) {
+                count -= 2;
+                words.extend(vec![b"13".to_vec(); 3]);
+            }
             words[count_at[1]] = count.to_string().into_bytes();
             return ("count and words differ", words.join(&b' '));
         }

@@ -21,19 +21,19 @@ rq c = requestOf (c .args .form) (c .args .first) (c .args .second) (c .args .N)
 fine : (c : tie.Else1) → Composable (rq (c .before .before .before))
 unfolding requestOf
 fine c =
-    composable (rq (c .before .before .before)) _ _
-    (accepts (rq (c .before .before .before)) (length (c .before .before .before .args .exact .now)) (length (c .before .before .before .args .points .now)) (ap (λ a. a .number) (sym (c .before .before .judge .ensures)) ∙ c .if1 .left))
+    composable (rq (c .before .before .before)) (c .before .before .before .args .age .0) _ _
+    (accepts (rq (c .before .before .before)) (c .before .before .before .args .age .0) (length (c .before .before .before .args .exact .now)) (length (c .before .before .before .args .points .now)) (ap (λ a. a .number) (sym (c .before .before .judge .ensures)) ∙ c .if1 .left))
 
 room : (c : tie.Else1) → Room (rq (c .before .before .before)) (length (c .before .before .before .args .exact .now)) (length (c .before .before .before .args .points .now)) (c .before .before .judge .result .count)
 unfolding requestOf
-room c = room-for (rq (c .before .before .before)) _ _ (c .before .before .judge .result) (c .before .before .judge .ensures) (c .if1 .left)
+room c = room-for (rq (c .before .before .before)) (c .before .before .before .args .age .0) _ _ (c .before .before .judge .result) (c .before .before .judge .ensures) (c .if1 .left)
 
 judge-requires : tie.Need-judge-requires
 judge-requires c κs = search needs
 
 returns : tie.Need-returns
 unfolding requestOf
-returns c = refused-result (requestOf (c .before .before .before .args .form) (c .before .before .before .args .first) (c .before .before .before .args .second) (c .before .before .before .args .N) (c .before .before .before .args .surface .now) (c .before .before .before .args .path .now)) _ _ _ (c .before .before .judge .ensures) (c .if1 .taken)
+returns c = refused-result (requestOf (c .before .before .before .args .form) (c .before .before .before .args .first) (c .before .before .before .args .second) (c .before .before .before .args .N) (c .before .before .before .args .surface .now) (c .before .before .before .args .path .now)) _ _ _ _ (c .before .before .judge .ensures) (c .if1 .taken)
 
 numerators-requires : tie.Need-numerators-requires
 unfolding requestOf
@@ -63,7 +63,7 @@ returns-2 : tie.Need-returns-2
 unfolding requestOf
 returns-2 c =
     let r = room (c .before .before .before .before .before .before .before .before .before .before .before) in
-    accepted-result (requestOf (c .before .before .before .before .before .before .before .before .before .before .before .before .before .before .args .form) (c .before .before .before .before .before .before .before .before .before .before .before .before .before .before .args .first) (c .before .before .before .before .before .before .before .before .before .before .before .before .before .before .args .second) (c .before .before .before .before .before .before .before .before .before .before .before .before .before .before .args .N) (c .before .before .before .before .before .before .before .before .before .before .before .before .before .before .args .surface .now) (c .before .before .before .before .before .before .before .before .before .before .before .before .before .before .args .path .now)) _ _ _ (fine (c .before .before .before .before .before .before .before .before .before .before .before)) (c .before .before .before .before .before .before .before .before .before .before .numerators .ensures) (c .before .before .before .scale .ensures ∙ ap (λ n. 1024 ^ n) (c .before .before .before .before .degree .ensures)) (r .is) _ _ _ (c .before .before .before .before .before .before .before .before .before .before .before .before .before .judge .ensures) refl _ _ (c .before .before .before .before .before .before .before .write-exact .ensures) (c .before .write-points .ensures)
+    accepted-result (requestOf (c .before .before .before .before .before .before .before .before .before .before .before .before .before .before .args .form) (c .before .before .before .before .before .before .before .before .before .before .before .before .before .before .args .first) (c .before .before .before .before .before .before .before .before .before .before .before .before .before .before .args .second) (c .before .before .before .before .before .before .before .before .before .before .before .before .before .before .args .N) (c .before .before .before .before .before .before .before .before .before .before .before .before .before .before .args .surface .now) (c .before .before .before .before .before .before .before .before .before .before .before .before .before .before .args .path .now)) _ _ _ (fine (c .before .before .before .before .before .before .before .before .before .before .before)) (c .before .before .before .before .before .before .before .before .before .before .numerators .ensures) (c .before .before .before .scale .ensures ∙ ap (λ n. 1024 ^ n) (c .before .before .before .before .degree .ensures)) (r .is) _ _ _ _ (c .before .before .before .before .before .before .before .before .before .before .before .before .before .judge .ensures) refl _ _ (c .before .before .before .before .before .before .before .write-exact .ensures) (c .before .write-points .ensures)
 
 pub compose-spec : {M : Type 1} → statement M
 compose-spec =

@@ -10,19 +10,19 @@ surface-count-requires : tie.Need-surface-count-requires
 surface-count-requires c κs = search needs
 
 mul-result : tie.Need-mul-result
-mul-result c = omega (arith, surface-most (c .before .args .head) (c .before .pre))
+mul-result c = omega (arith, surface-most (c .before .args .head) (c .before .pre .1))
 
 add-result : tie.Need-add-result
-add-result c = omega (arith, surface-most (c .before .args .head) (c .before .pre))
+add-result c = omega (arith, surface-most (c .before .args .head) (c .before .pre .1))
 
 path-count-requires : tie.Need-path-count-requires
 path-count-requires c κs = search needs
 
 mul-result-2 : tie.Need-mul-result-2
-mul-result-2 c = omega (arith, path-most (c .before .before .args .head) (c .before .before .pre))
+mul-result-2 c = omega (arith, path-most (c .before .before .args .head) (c .before .before .pre .1))
 
 add-result-2 : tie.Need-add-result-2
-add-result-2 c = omega (arith, surface-most (c .before .before .args .head) (c .before .before .pre), path-most (c .before .before .args .head) (c .before .before .pre))
+add-result-2 c = omega (arith, surface-most (c .before .before .args .head) (c .before .before .pre .1), path-most (c .before .before .args .head) (c .before .before .pre .1))
 
 returns : tie.Need-returns
 unfolding pathStart bodyEnd

@@ -6,7 +6,7 @@ use native.Mathlib.Omega.{arith}
 use lib.ListN.{length}
 use lib.Seq.{length-take-le}
 use Rattle.door.specs.Record.{pathStart, bodyEnd}
-use Rattle.door.proofs.Sizes.{surface-most, path-most}
+use Rattle.door.proofs.Sizes.{surface-most, path-most, start-most}
 use Rattle.door.proofs.Composing.{request-read, composed-given}
 use borrow.Author.Needs.{needs}
 use Rattle.door.proofs.compose_in.Statement.{statement}
@@ -41,7 +41,7 @@ mul-read-numbers : tie.Need-mul-read-numbers
 mul-read-numbers c = omega (arith, surface-most (c .before .before .before .before .before .before .args .head) (c .before .before .before .before .before .before .pre .0 .small))
 
 add-read-numbers : tie.Need-add-read-numbers
-add-read-numbers c = omega (arith, surface-most (c .before .before .before .before .before .before .args .head) (c .before .before .before .before .before .before .pre .0 .small))
+add-read-numbers c = omega (arith, surface-most (c .before .before .before .before .before .before .args .head) (c .before .before .before .before .before .before .pre .0 .small), c .before .before .before .before .before .before .pre .0 .from-is, start-most (c .before .before .before .before .before .before .args .request .now))
 
 slice-aggregate-read-numbers-2 : tie.Need-slice-aggregate-read-numbers-2
 slice-aggregate-read-numbers-2 c = search needs
@@ -77,9 +77,9 @@ returns c =
     let path-read = called .before .before .before .before .before .before in
     let surface-read = path-read .before .before .before in
     let start = surface-read .before .before .before .before .before in
-    composed-given (start .args .request .now) _ _ _ _ _ _
-    (request-read (start .args .request .now) (start .args .head) (surface-read .before .before .before .surface-count .result) (surface-read .before .before .path-count .result) _ _ _ _ (start .pre .0 .head-is) (surface-read .before .before .before .surface-count .ensures) (surface-read .before .before .path-count .ensures) (surface-read .read-numbers .ensures) (path-read .read-numbers2 .ensures))
-    refl (start .pre .1) (called .compose .ensures)
+    composed-given (start .args .request .now) _ _ _ _ _ _ _
+    (request-read (start .args .request .now) (start .args .from) (start .args .head) (surface-read .before .before .before .surface-count .result) (surface-read .before .before .path-count .result) _ _ _ _ (start .pre .0 .from-is) (start .pre .0 .head-is) (surface-read .before .before .before .surface-count .ensures) (surface-read .before .before .path-count .ensures) (surface-read .read-numbers .ensures) (path-read .read-numbers2 .ensures))
+    (start .pre .0 .age-is) refl (start .pre .1) (called .compose .ensures)
 
 pub compose-in-spec : {M : Type 1} → statement M
 compose-in-spec =

@@ -1,7 +1,7 @@
 -- `door::not_frame` meets its contract: one test after the other. Assumes nothing.
 use borrow.Author.Tests.{lt-ltb, le-ltb, eq-eqb, ne-eqb}
-use Rattle.door.specs.Record.{lengthField, kindField}
-use Rattle.door.specs.Judgement.{notFrame}
+use Rattle.door.specs.Record.{lengthField, kindField, isAged}
+use Rattle.door.specs.Judgement.{notOfKind, notFrame}
 use borrow.Author.Needs.{needs}
 use Rattle.door.proofs.not_frame.Statement.{statement}
 use Rattle.door.proofs.not_frame.Tie as tie
@@ -21,9 +21,13 @@ word-at-requires-2 : tie.Need-word-at-requires-2
 word-at-requires-2 c κs = search needs
 
 returns-3 : tie.Need-returns-3
-unfolding notFrame lengthField kindField
-returns-3 c = rw (le-ltb _ _ (c .before .before .before .if1 .left), ← c .before .before .word-at .ensures .0, ← c .word-at2 .ensures .0, eq-eqb _ _ (c .before .if2 .left))
+unfolding notFrame notOfKind lengthField kindField isAged
+returns-3 c = rw (le-ltb _ _ (c .before .before .before .before .if1 .left), ← c .before .before .before .word-at .ensures .0, ← c .before .word-at2 .ensures .0, eq-eqb _ _ (c .before .before .if2 .left), c .if3 .taken)
+
+returns-4 : tie.Need-returns-4
+unfolding notFrame notOfKind lengthField kindField isAged
+returns-4 c = rw (le-ltb _ _ (c .before .before .before .before .if1 .left), ← c .before .before .before .word-at .ensures .0, ← c .before .word-at2 .ensures .0, eq-eqb _ _ (c .before .before .if2 .left), ne-eqb _ _ (c .if3 .left))
 
 pub not-frame-spec : {M : Type 1} → statement M
 not-frame-spec =
-    tie.close (tie.spec returns word-at-requires returns-2 word-at-requires-2 returns-3)
+    tie.close (tie.spec returns word-at-requires returns-2 word-at-requires-2 returns-3 returns-4)

@@ -7,7 +7,7 @@ use Rattle.exports.proofs.lean_compose.Statement.{statement}
 use Rattle.exports.proofs.lean_compose.Tie as tie
 
 returns : tie.Need-returns
-returns c = untouched _ _ _ _ (omega arith)
+returns c = untouched _ _ _ _ _ (omega arith)
 
 compose-requires : tie.Need-compose-requires
 compose-requires c κs = search needs
@@ -40,7 +40,7 @@ returns-2 c =
     let first = second .before .before .before .before in
     let called = first .before .before .before .before .before in
     let args = called .before .before .before .before .before .args in
-    answered (requestOf (args .form) (args .first) (args .second) (args .N) (args .surface .now) (args .path .now)) _ _ _ _ _ _ _ _ _ _ (omega arith) (called .compose .ensures) (first .before .wide .ensures) (first .put .ensures) (second .put2 .ensures) (third .put3 .ensures)
+    answered (requestOf (args .form) (args .first) (args .second) (args .N) (args .surface .now) (args .path .now)) _ _ _ _ _ _ _ _ _ _ _ (omega arith) (called .compose .ensures) (first .before .wide .ensures) (first .put .ensures) (second .put2 .ensures) (third .put3 .ensures)
 
 pub lean-compose-spec : {M : Type 1} → statement M
 lean-compose-spec =

@@ -2,7 +2,7 @@
 -- Assumes nothing.
 use borrow.Author.Needs.{needs}
 use Rattle.text.proofs.Runs.{rest-is}
-use Rattle.text.proofs.Asks.{asks-head, asks-surface, asks-path, asks-rooms, asks-all}
+use Rattle.text.proofs.Asks.{asks-head, asks-surface, asks-path, asks-end, asks-all}
 use Rattle.text.proofs.read_request.Statement.{statement}
 use Rattle.text.proofs.read_request.Tie as tie
 
@@ -60,32 +60,32 @@ returns-3 c =
 add-c : tie.Need-add-c
 add-c c = search needs
 
-sub-read-rooms : tie.Need-sub-read-rooms
-sub-read-rooms c = search needs
+sub-read-end : tie.Need-sub-read-end
+sub-read-end c = search needs
 
-part-read-rooms-start : tie.Need-part-read-rooms-start
-part-read-rooms-start c = search needs
+part-read-end-start : tie.Need-part-read-end-start
+part-read-end-start c = search needs
 
-part-read-rooms-end : tie.Need-part-read-rooms-end
-part-read-rooms-end c = search needs
+part-read-end-end : tie.Need-part-read-end-end
+part-read-end-end c = search needs
 
-read-rooms-requires : tie.Need-read-rooms-requires
-read-rooms-requires c κs = search needs
+read-end-requires : tie.Need-read-end-requires
+read-end-requires c κs = search needs
 
 not-read-requires-4 : tie.Need-not-read-requires-4
 not-read-requires-4 c κs = search needs
 
 returns-4 : tie.Need-returns-4
 returns-4 c =
-    asks-rooms _ _ (c .before .before .before .before .before .before .before .before .before .before .before .before .before .before .before .before .before .before .before .read-head .ensures) (c .before .before .before .before .before .before .before .before .before .before .before .before .before .before .before .before .before .if1 .left) _ _ (rw rest-is at (c .before .before .before .before .before .before .before .before .before .before .before .before .before .before .read-list .ensures)) (c .before .before .before .before .before .before .before .before .before .before .before .before .if2 .left) _ _
-    (rw rest-is at (c .before .before .before .before .before .before .before .before .read-list2 .ensures)) (c .before .before .before .before .before .before .if3 .left) _ (rw rest-is at (c .before .before .before .read-rooms .ensures)) (c .before .if4 .taken) _ (c .not-read4 .ensures)
+    asks-end _ _ (c .before .before .before .before .before .before .before .before .before .before .before .before .before .before .before .before .before .before .before .read-head .ensures) (c .before .before .before .before .before .before .before .before .before .before .before .before .before .before .before .before .before .if1 .left) _ _ (rw rest-is at (c .before .before .before .before .before .before .before .before .before .before .before .before .before .before .read-list .ensures)) (c .before .before .before .before .before .before .before .before .before .before .before .before .if2 .left) _ _
+    (rw rest-is at (c .before .before .before .before .before .before .before .before .read-list2 .ensures)) (c .before .before .before .before .before .before .if3 .left) _ (rw rest-is at (c .before .before .before .read-end .ensures)) (c .before .if4 .taken) _ (c .not-read4 .ensures)
 
 returns-5 : tie.Need-returns-5
 returns-5 c =
     let h = c .before .before .before .before .before .before .before .before .before .before .before .before .before .before .before .before .before .before .before .before .read-head in
     let a = c .before .before .before .before .before .before .before .before .before .before .before .before .before .before .before .read-list in
     let b = c .before .before .before .before .before .before .before .before .before .read-list2 in
-    let r = c .before .before .before .before .read-rooms in
+    let r = c .before .before .before .before .read-end in
     asks-all _ (h .result) (h .ensures) (c .before .before .before .before .before .before .before .before .before .before .before .before .before .before .before .before .before .before .if1 .left) _ (a .result) (rw rest-is at (a .ensures)) (c .before .before .before .before .before .before .before .before .before .before .before .before .before .if2 .left) _ (b .result)
     (rw rest-is at (b .ensures)) (c .before .before .before .before .before .before .before .if3 .left) (r .result) (rw rest-is at (r .ensures)) (c .before .before .if4 .left)
 
@@ -110,10 +110,10 @@ read-request-spec =
     not-read-requires-3
     returns-3
     add-c
-    sub-read-rooms
-    part-read-rooms-start
-    part-read-rooms-end
-    read-rooms-requires
+    sub-read-end
+    part-read-end-start
+    part-read-end-end
+    read-end-requires
     not-read-requires-4
     returns-4
     returns-5)
