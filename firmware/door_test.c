@@ -1,6 +1,6 @@
 /* Calls the door as the drive's firmware does, with records of both kinds: a good ride, each refusal, ages at both sides of
- * their bound, exact and short room, with guard bytes around the reply. Prints a line for each case and fails on the first
- * that is not as the header says. */
+ * their bound, exact and short room, with guard bytes around the reply. Prints a line for each case and fails
+ * where one is not as the header says. */
 #include "lean_door.h"
 
 #include <stdio.h>

@@ -1,5 +1,5 @@
-# Sourced by the scripts of this repository. Sets `top`, the repository's folder, `rt`, the kit's command, and `kit`, the kit's
-# folder, and gives `quietly`; leaves with 2 where there is no kit.
+# Sourced by the scripts of this repository. Sets `top`, the repository's folder, `rt`, the kit's command, `kit`, the kit's
+# folder, and `start`, the words before a program's path, and gives `quietly`; leaves with 2 where there is no kit.
 # shellcheck shell=bash disable=SC2034
 top=$(dirname "$(dirname "$(readlink -f "${BASH_SOURCE[0]}")")")
 
@@ -14,6 +14,11 @@ if [ ! -f "$kit/KIT-ID" ]; then
     echo "${0##*/}: $rt stands in no Rattle kit: put the bin/ of the kit first on PATH, or set RATTLE_HOME to its folder" >&2
     exit 2
 fi
+
+# Programs are for x86-64 and run under the kit's loader; on another machine the kit has an emulator.
+tools=$kit/on/$(uname -m)/toolchain
+start=("$tools/lib/ld-linux-x86-64.so.2" --library-path "$tools/lib")
+if [ -x "$tools/bin/qemu-x86_64" ]; then start=("$tools/bin/qemu-x86_64" "${start[@]}"); fi
 
 # Runs rt in the repository and shows what it says only where it fails. One at a time, so that programs joined by a pipe do
 # not build into each other's files.

@@ -5,6 +5,7 @@
 
 mod clock;
 mod lean;
+mod night;
 mod plain;
 mod rides;
 
@@ -115,14 +116,25 @@ impl Spread {
 fn main() {
     let mut rng = Xorshift::new(SEED);
     let rides = rides::mixed(&mut rng, RIDES);
-    if env::args().nth(1).as_deref() == Some("once") {
-        println!("{}", once(&rides).map(|time| time.to_string()).join(" "));
-        return;
-    }
-    compare(&rides);
-    mixed(&rides);
-    for form in 1..=3 {
-        table(&mut rng, form);
+    let words: Vec<String> = env::args().skip(1).collect();
+    match words.first().map(String::as_str) {
+        None => {
+            compare(&rides);
+            mixed(&rides);
+            for form in 1..=3 {
+                table(&mut rng, form);
+            }
+        }
+        Some("once") => println!("{}", once(&rides).map(|time| time.to_string()).join(" ")),
+        Some("night") => {
+            night::report(&rides, &array::from_fn::<_, RUNS, _>(|_| run("night-once")))
+        }
+        Some("night-once") => println!(
+            "{}",
+            night::once(&rides).map(|time| time.to_string()).join(" ")
+        ),
+        Some("memory") => night::memory(&words[1..], &rides),
+        Some(other) => panic!("{other} is not measured"),
     }
 }
 
@@ -145,10 +157,10 @@ fn once(rides: &[Ride]) -> [f64; 3] {
 }
 
 /// A run of this program.
-fn run() -> [f64; 3] {
+fn run<const N: usize>(word: &str) -> [f64; N] {
     let program = env::current_exe().expect("the program has a path");
     let ended = Command::new(program)
-        .arg("once")
+        .arg(word)
         .output()
         .expect("it can be started again");
     assert!(
@@ -161,7 +173,7 @@ fn run() -> [f64; 3] {
         .split_whitespace()
         .map(|word| word.parse().expect("a number"))
         .collect();
-    times.try_into().expect("three numbers")
+    times.try_into().expect("as many numbers as times")
 }
 
 /// The mixed rides.
@@ -178,7 +190,7 @@ fn mixed(rides: &[Ride]) {
     println!("All answers and arrays are the same. Output arrays are not cleared between rides.");
     println!("{RUNS} runs, the median run, and from the least to the greatest; processor time:\n");
 
-    let runs: Vec<[f64; 3]> = (0..RUNS).map(|_| run()).collect();
+    let runs: Vec<[f64; 3]> = (0..RUNS).map(|_| run("once")).collect();
     println!(
         "{:<18} {:>10}  {:<20} {:>9}",
         "", "rides/s", "least to greatest", "ns a ride"

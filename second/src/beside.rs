@@ -160,7 +160,7 @@ impl fmt::Display for Difference {
 }
 
 /// Bytes in hex, two digits each.
-fn hex(bytes: &[u8]) -> String {
+pub(crate) fn hex(bytes: &[u8]) -> String {
     let shown = &bytes[..bytes.len().min(SHOWN)];
     let mut text: String = shown.iter().map(|byte| format!("{byte:02x}")).collect();
     if shown.len() < bytes.len() {

@@ -5,9 +5,10 @@
 //! Nothing here is clever. Every choice of path points is visited, and every
 //! blossom is worked out afresh from the net, in numbers wide enough that no
 //! step can come near their ends. The door asks the same of bytes: one request
-//! record, one reply record.
+//! record, one reply record; and a replay asks the door a whole night.
 
 pub mod beside;
+pub mod beside_replay;
 pub mod binomial;
 pub mod blossom;
 pub mod composed;
@@ -16,6 +17,7 @@ pub mod line;
 pub mod quantity;
 pub mod record;
 pub mod refusal;
+pub mod replay;
 pub mod request;
 pub mod ride;
 pub mod rounding;

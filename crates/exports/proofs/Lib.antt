@@ -1,3 +1,5 @@
--- How the composer's own contract gives that of a call from C or Rust, and that this one leaves no choice. Assumes nothing.
+-- How the composer's and the replay's own contracts give those of a call from C or Rust, and that these leave no choice.
+-- Assumes nothing.
 mod Crossed
 pub mod Determined
+pub mod Replaying

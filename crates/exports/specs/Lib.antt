@@ -1,2 +1,3 @@
 -- What a call from C or Rust leaves in the lent arrays. Assumes nothing.
 pub mod Exported
+pub mod Replayed

@@ -1,4 +1,4 @@
-// Document 01's request and its nine refusals, tested in the stated order: `judge` answers a number, a place and a count for
+// Document 01's request and the nine refusals, ticket 3's with them, tested in the stated order: `judge` answers a number, a place and a count for
 // every request and writes nothing.
 ghost use mathlib.Core.Path.{_≡_};
 ghost use mathlib.Core.Bool.{false};

@@ -1,2 +1,2 @@
--- The bounds of document 01's two kinds of number. Assumes nothing.
+-- The bounds of the three kinds of number: path number, travel and age. Assumes nothing.
 pub mod Bounds

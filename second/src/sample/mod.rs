@@ -4,7 +4,9 @@ mod draft;
 mod fault;
 mod frame;
 pub mod records;
+mod tape;
 mod text;
+pub mod traces;
 
 use crate::line::{read, Asked};
 use crate::refusal::Refusal;

@@ -1,0 +1,29 @@
+// Replays a recorded night: reads the trace that its argument names, or standard input, asks the door afresh and writes the
+// five numbers, or one pair in words. What goes wrong is said on standard error, and then no number is written.
+mod asked;
+mod find;
+mod night;
+mod show;
+mod text;
+
+fn main() {
+    let wish = asked::read();
+    if wish.help {
+        asked::help();
+        return;
+    }
+    if wish.counting {
+        text::say(b"replay: --show asks for the number of a pair, from 1 on\n");
+        return;
+    }
+    if wish.wrong != 0 {
+        asked::complain(wish.wrong);
+        return;
+    }
+    let wanted = wish.show;
+    if wanted != 0 {
+        find::run(wish.file, wanted);
+        return;
+    }
+    night::run(wish.file, wish.progress);
+}
