@@ -16,11 +16,12 @@ use Rattle.request.specs.Refusal.{notKind, notDegree, answer}
 use Rattle.request.proofs.Verdict.{stale-refused as old}
 use Rattle.compose.specs.Afterwards.{listBelow}
 use Rattle.compose.proofs.Written.{below-at, below-length}
-use Rattle.door.specs.Bytes.{all, wordBytes, wordAt, numberBytes, numberAt}
-use Rattle.door.specs.Record.{start, agedStart, requestKind, agedKind, lengthField, kindField, recordStart, recordOf, headIn, isAged, startIn, ageIn, pathStart, bodyEnd, requestIn, headBytes, kindOf, ageBytes, requestRecord}
+use Rattle.wire.specs.Words.{wordEnd, wordBytes, wordAt, numberBytes, numberAt}
+use Rattle.wire.specs.Start.{lengthField, kindField, recordStart, recordOf}
+use Rattle.door.specs.Record.{start, agedStart, requestKind, agedKind, headIn, isAged, startIn, ageIn, pathStart, bodyEnd, requestIn, headBytes, kindOf, ageBytes, requestRecord}
 use Rattle.door.specs.Judgement.{mostPoints, notOfKind, notFrame, judged}
 use Rattle.door.specs.Parts.{AllShort}
-use Rattle.door.proofs.Numbers.{numbers-length, number-read}
+use Rattle.wire.proofs.Words.{numbers-length, number-read}
 use Rattle.door.proofs.Order.{stale-refused, to-composer, body-fits}
 
 -- numbers that were written are read again, all of them
@@ -37,7 +38,7 @@ at-least false = omega arith
 -- an age, where there is one, fits two bytes; and where there is none it counts as 0
 abbrev pub Fits : Option ℕ → Type 0
 Fits none = Unit {0}
-Fits (some age) = age < all
+Fits (some age) = age < wordEnd
 
 abbrev pub milliseconds : Option ℕ → ℕ
 milliseconds none = 0

@@ -13,7 +13,7 @@ use Rattle.request.specs.Refusal.{answer}
 use Rattle.compose.specs.Afterwards.{listBelow, afterwards, pointsAfter}
 use Rattle.compose.specs.Contract.{requestOf, Composed}
 use Rattle.compose.proofs.Written.{below-length}
-use Rattle.door.specs.Bytes.{numberAt}
+use Rattle.wire.specs.Words.{numberAt}
 use Rattle.door.specs.Record.{headIn, startIn, ageIn, pathStart, requestIn}
 use Rattle.door.specs.Judgement.{mostPoints}
 use Rattle.door.specs.Parts.{Given}

@@ -1,5 +1,4 @@
 -- Laws of the door's numbers and records, and the theorems about its replies. Assumes nothing.
-pub mod Numbers
 pub mod Over
 pub mod Sizes
 pub mod Composing

@@ -12,7 +12,8 @@ use Rattle.request.specs.declared.Answer.{Answer}
 use Rattle.request.specs.Refusal.{refused, notKind, notDegree, answer}
 use Rattle.request.proofs.Forms.{or-none}
 use Rattle.compose.proofs.Written.{afterwards-none}
-use Rattle.door.specs.Record.{requestKind, start, agedStart, lengthField, kindField, headIn, isAged, startIn, ageIn, bodyEnd, requestIn}
+use Rattle.wire.specs.Start.{lengthField, kindField}
+use Rattle.door.specs.Record.{requestKind, start, agedStart, headIn, isAged, startIn, ageIn, bodyEnd, requestIn}
 use Rattle.door.specs.Judgement.{mostPoints, notOfKind, notFrame, notBody, tests, inOrder, judged}
 use Rattle.door.specs.Parts.{Given}
 

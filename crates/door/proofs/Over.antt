@@ -6,7 +6,7 @@ use native.Mathlib.Numerals.{add-one}
 use native.Mathlib.Omega.{arith}
 use lib.ListN.{length, take, drop, set, length-append, length-drop, drop-of-length-le}
 use lib.Seq.{sets, sets-eq, take-all, take-at, drop-at, drop-append-add, drop-drop}
-use Rattle.door.specs.Bytes.{wordBytes}
+use Rattle.wire.specs.Words.{wordBytes}
 use Rattle.door.specs.Contract.{over}
 
 module _ {A : Type 0} (written lent : List A) where

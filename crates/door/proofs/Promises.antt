@@ -14,11 +14,12 @@ use Rattle.request.specs.Request.{Request}
 use Rattle.request.specs.Refusal.{refused, accepted, answer, answerNumbers, notValue, notParameter, notBalance, valuePlace, parameterPlace, balancePlace}
 use Rattle.request.proofs.Verdict.{to-numbers}
 use Rattle.net.specs.Composed.{point}
-use Rattle.door.specs.Bytes.{Short, wordAt, wordBytes, numberBytes, numberAt}
-use Rattle.door.specs.Record.{start, replyKind, lengthField, kindField, recordStart, recordOf, headIn, ageIn, answerBytes, requestIn, replyRecord}
+use Rattle.wire.specs.Words.{Short, wordAt, wordBytes, numberBytes, numberAt}
+use Rattle.wire.specs.Start.{lengthField, kindField, recordStart, recordOf}
+use Rattle.door.specs.Record.{start, replyKind, headIn, ageIn, answerBytes, requestIn, replyRecord}
 use Rattle.door.specs.Judgement.{mostPoints, judged}
 use Rattle.door.specs.Contract.{pointsOf, replyOf, over, room, Answered}
-use Rattle.door.proofs.Numbers.{number-read}
+use Rattle.wire.proofs.Words.{number-read}
 use Rattle.door.proofs.Over.{over-length}
 use Rattle.door.proofs.Order.{Passed, judged-is}
 use Rattle.door.proofs.Replies.{reply-length}

@@ -6,10 +6,11 @@ use native.Mathlib.Omega.{arith}
 use lib.IntN.{ℤ}
 use lib.ListN.{length, take, drop, set}
 use Rattle.request.specs.declared.Answer.{Answer}
-use Rattle.door.specs.Bytes.{wordBytes, numberBytes}
-use Rattle.door.specs.Record.{start, replyKind, recordStart, recordOf, answerBytes, replyRecord}
+use Rattle.wire.specs.Words.{wordBytes, numberBytes}
+use Rattle.wire.specs.Start.{recordStart, recordOf}
+use Rattle.door.specs.Record.{start, replyKind, answerBytes, replyRecord}
 use Rattle.door.specs.Contract.{over}
-use Rattle.door.proofs.Numbers.{numbers-length}
+use Rattle.wire.proofs.Words.{numbers-length}
 use Rattle.door.proofs.Over.{over-more, over-part}
 
 pub reply-length : (a : Answer) (points : List ℤ) → length (replyRecord a points) ≡ start + 2 * length points

@@ -21,7 +21,7 @@ use Rattle.net.proofs.Bounds.{point-size}
 use Rattle.compose.proofs.Written.{below-at, below-length}
 use Rattle.compose.proofs.Acceptance.{accepts, refused-none}
 use Rattle.compose.proofs.Entry.{composable}
-use Rattle.door.specs.Bytes.{Short}
+use Rattle.wire.specs.Words.{Short}
 use Rattle.door.specs.Record.{headIn, ageIn, requestIn}
 use Rattle.door.specs.Judgement.{mostPoints, judged}
 use Rattle.door.specs.Contract.{pointsOf}

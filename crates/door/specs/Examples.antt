@@ -14,8 +14,9 @@ use Rattle.net.specs.Net.{rowStart, placeOf, netOf, numberAt as pathNumberAt, p
 use Rattle.net.specs.Blossom.{step, blossom}
 use Rattle.net.specs.Composed.{overChoices, total, weight, arguments, numerator, denominator, point}
 use Rattle.compose.specs.Afterwards.{listBelow}
-use Rattle.door.specs.Bytes.{wordBytes, wordAt, unsigned, signed, numberBytes, numberAt}
-use Rattle.door.specs.Record.{lengthField, kindField, recordStart, recordOf, headIn, isAged, startIn, ageIn, pathStart, bodyEnd, requestIn, answerBytes, replyRecord}
+use Rattle.wire.specs.Words.{wordBytes, wordAt, unsigned, signed, numberBytes, numberAt}
+use Rattle.wire.specs.Start.{lengthField, kindField, recordStart, recordOf}
+use Rattle.door.specs.Record.{headIn, isAged, startIn, ageIn, pathStart, bodyEnd, requestIn, answerBytes, replyRecord}
 use Rattle.door.specs.Judgement.{notOfKind, notFrame, notBody, tests, inOrder, judged}
 use Rattle.door.specs.Contract.{pointsOf, replyOf}
 

@@ -8,7 +8,8 @@ use lib.ListN.{length}
 use Rattle.units.specs.Bounds.{stale}
 use Rattle.request.specs.declared.Answer.{Answer}
 use Rattle.request.specs.Refusal.{refused, notKind, notDegree, answer}
-use Rattle.door.specs.Record.{requestKind, start, agedStart, lengthField, kindField, headIn, isAged, startIn, ageIn, bodyEnd, requestIn}
+use Rattle.wire.specs.Start.{lengthField, kindField}
+use Rattle.door.specs.Record.{requestKind, start, agedStart, headIn, isAged, startIn, ageIn, bodyEnd, requestIn}
 
 -- the places that the composer is lent: as many as the longest ride has points
 abbrev pub mostPoints : ℕ

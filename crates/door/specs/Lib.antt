@@ -1,5 +1,4 @@
 -- The door's records as lists of bytes, the order in which a request is judged, and the reply. Assumes nothing.
-pub mod Bytes
 pub mod Record
 pub mod Judgement
 pub mod Contract

@@ -10,7 +10,7 @@ use Rattle.request.specs.declared.Head.{Head}
 use Rattle.request.specs.Refusal.{notDegree}
 use Rattle.net.specs.Composed.{point}
 use Rattle.compose.specs.Afterwards.{afterwards}
-use Rattle.door.specs.Bytes.{Short}
+use Rattle.wire.specs.Words.{Short}
 use Rattle.door.specs.Record.{headIn, startIn, ageIn, bodyEnd, requestIn}
 use Rattle.door.specs.Judgement.{mostPoints}
 

@@ -1,18 +1,19 @@
--- The records of tickets 1 and 3: what stands where. "A record starts with its length in two bytes, then a two-byte kind, all
--- little-endian; the length counts the whole record." Assumes nothing.
+-- The records of tickets 1 and 3: what stands where behind the length and the kind with which a record starts
+-- (Rattle.wire.specs.Start). Assumes nothing.
 use mathlib.Core.Bool.{Bool, cond}
 use mathlib.Core.List.{List, [], _∷_, _++_}
 use mathlib.Core.Option.{Option, none, some}
 use Prim.Native.Nat.{ℕ, _+_, _*_}
 use lib.IntN.{ℤ}
 use lib.Dec.{eqb}
-use lib.ListN.{length, getD}
+use lib.ListN.{getD}
 use Rattle.request.specs.declared.Answer.{Answer}
 use Rattle.request.specs.declared.Head.{Head}
 use Rattle.request.specs.Head.{surfaceCount, pathCount}
 use Rattle.request.specs.Request.{Request}
 use Rattle.compose.specs.Afterwards.{listBelow}
-use Rattle.door.specs.Bytes.{wordBytes, wordAt, numberBytes, numberAt}
+use Rattle.wire.specs.Words.{wordBytes, wordAt, numberBytes, numberAt}
+use Rattle.wire.specs.Start.{kindField, recordOf}
 
 abbrev pub requestKind : ℕ
 requestKind = 0x0001
@@ -31,20 +32,6 @@ start = 8
 -- and where they begin after an age
 abbrev pub agedStart : ℕ
 agedStart = 10
-
-unfoldable pub lengthField : List ℕ → ℕ
-lengthField bytes = wordAt bytes 0
-
-unfoldable pub kindField : List ℕ → ℕ
-kindField bytes = wordAt bytes 2
-
--- how a record of a size and a kind starts
-unfoldable pub recordStart : ℕ → ℕ → List ℕ
-recordStart size kind = wordBytes size ++ wordBytes kind
-
--- a whole record of a kind, around its contents
-unfoldable pub recordOf : ℕ → List ℕ → List ℕ
-recordOf kind contents = recordStart (4 + length contents) kind ++ contents
 
 -- "form, first degree, second degree and N, a byte each"
 unfoldable pub headIn : List ℕ → Head

@@ -7,8 +7,9 @@ ghost use Prim.Native.Nat.{_+_, _*_, _/_, _%_, _≤_, _<_};
 ghost use lib.ListN.{length, set};
 ghost use Rattle.request.specs.Refusal.{notDegree, refused, answer};
 ghost use Rattle.compose.specs.Afterwards.{afterwards};
-ghost use Rattle.door.specs.Bytes.{all, Short, wordAt, unsigned, signed, numberBytes, numberAt};
-ghost use Rattle.door.specs.Record.{start, replyKind, recordStart, headIn, isAged, agedStart, startIn, ageIn, bodyEnd, requestIn, answerBytes, replyRecord};
+ghost use Rattle.wire.specs.Words.{wordEnd, Short, wordAt, unsigned, signed, numberBytes, numberAt};
+ghost use Rattle.wire.specs.Start.{recordStart};
+ghost use Rattle.door.specs.Record.{start, replyKind, headIn, isAged, agedStart, startIn, ageIn, bodyEnd, requestIn, answerBytes, replyRecord};
 ghost use Rattle.door.specs.Judgement.{mostPoints, notFrame, judged};
 ghost use Rattle.door.specs.Contract.{over, room, Answered};
 ghost use Rattle.door.specs.Parts.{AllShort, Whole, Given, InBytes, Sendable};
@@ -41,39 +42,10 @@ const ROOM: usize = 34;
 
 // ---- numbers of two bytes
 
-fn wide(x: u8) -> u64
-    ensures { λ r. ⌜ (r ≡ x) × (r < 256) ⌝ }
-{
-    x as u64
-}
-
-// The unsigned number at byte k.
-fn word_at(bytes: &[u8], k: usize) -> u64
-    requires { ⌜ k + 1 < length (now bytes) ⌝ }
-    ensures { λ r. ⌜ (r ≡ wordAt (now (bytes .entry)) k) × (r < all) ⌝ }
-{
-    let low = wide(bytes[k]);
-    let high = wide(bytes[k + 1]);
-    low + 256 * high
-}
-
-// The signed number at byte k.
-fn number_at(bytes: &[u8], k: usize) -> Num
-    requires { ⌜ k + 1 < length (now bytes) ⌝ }
-    ensures { λ r. ⌜ (r .0 ≡ signed (wordAt (now (bytes .entry)) k)) × Short (r .0) ⌝ }
-{
-    let word = word_at(bytes, k);
-    if word < 32768 {
-        whole::plus(word)
-    } else {
-        whole::minus(65536 - word)
-    }
-}
-
 // A signed number as an unsigned one.
 fn word_of(n: Num) -> u64
     requires { ⌜ Short (n .0) ⌝ }
-    ensures { λ r. ⌜ (r ≡ unsigned (n .0)) × (r < all) ⌝ }
+    ensures { λ r. ⌜ (r ≡ unsigned (n .0)) × (r < wordEnd) ⌝ }
 {
     let size = whole::size(n);
     if whole::negative(n) {
@@ -84,7 +56,7 @@ fn word_of(n: Num) -> u64
 }
 
 fn put_word(bytes: &mut [u8], k: usize, word: u64)
-    requires { ⌜ (k + 1 < length (now bytes)) × (word < all) ⌝ }
+    requires { ⌜ (k + 1 < length (now bytes)) × (word < wordEnd) ⌝ }
     ensures { λ _. ⌜ now (bytes .exit) ≡ set (set (now (bytes .entry)) k (word % 256)) (k + 1) (word / 256) ⌝ }
 {
     bytes[k] = (word % 256) as u8;
@@ -106,7 +78,7 @@ fn read_numbers(bytes: &[u8], from: usize, count: usize, numbers: &mut [i32])
 {
     let mut k = 0;
     while k < count {
-        put_number(numbers, k, number_at(bytes, from + 2 * k));
+        put_number(numbers, k, wire::number_at(bytes, from + 2 * k));
         k += 1;
     }
 }
@@ -133,10 +105,10 @@ fn not_frame(request: &[u8]) -> bool
     if request.len() < START {
         return true;
     }
-    if word_at(request, 0) != request.len() as u64 {
+    if wire::word_at(request, 0) != request.len() as u64 {
         return true;
     }
-    let kind = word_at(request, 2);
+    let kind = wire::word_at(request, 2);
     if kind == AGED_KIND {
         return request.len() < AGED_START;
     }
@@ -160,7 +132,7 @@ fn is_aged(request: &[u8]) -> bool
     requires { ⌜ start ≤ length (now request) ⌝ }
     ensures { λ r. ⌜ r ≡ isAged (now (request .entry)) ⌝ }
 {
-    word_at(request, 2) == AGED_KIND
+    wire::word_at(request, 2) == AGED_KIND
 }
 
 // Where the numbers of a request begin.
@@ -177,7 +149,7 @@ fn age_in(request: &[u8]) -> Age
     ensures { λ r. ⌜ r .0 ≡ ageIn (now (request .entry)) ⌝ }
 {
     if is_aged(request) {
-        return Age(word_at(request, START) as u16);
+        return Age(wire::word_at(request, START) as u16);
     }
     Age(0)
 }
@@ -252,7 +224,7 @@ fn judge_record(request: &[u8], points: &mut [i32]) -> Answer
 
 // Writes a reply's first eight bytes.
 fn write_head(a: Answer, size: u64, reply: &mut [u8])
-    requires { ⌜ InBytes a × (size < all) × (start ≤ length (now reply)) ⌝ }
+    requires { ⌜ InBytes a × (size < wordEnd) × (start ≤ length (now reply)) ⌝ }
     ensures { λ _. ⌜ now (reply .exit) ≡ over (recordStart size replyKind ++ answerBytes a) (now (reply .entry)) ⌝ }
 {
     put_word(reply, 0, size);

@@ -8,10 +8,11 @@ use native.Mathlib.Omega.{arith}
 use lib.ListN.{length, take, drop, length-append, length-drop}
 use lib.Seq.{take-append-seam, take-all}
 use borrow.Author.Tests.{le-ltb}
-use Rattle.door.specs.Bytes.{wordAt}
-use Rattle.door.specs.Record.{lengthField}
+use Rattle.wire.specs.Words.{wordAt}
+use Rattle.wire.specs.Start.{lengthField}
 use Rattle.door.specs.Contract.{replyOf, over, room, countAnswered, replyAfter, Answered}
-use Rattle.trace.specs.Cut.{longest, recordIn, behind, pairIn}
+use Rattle.wire.specs.Start.{recordIn, behind}
+use Rattle.trace.specs.Cut.{longest, pairIn}
 use Rattle.trace.specs.Replay.{sameBytes, agrees}
 use Rattle.trace.specs.Place.{OnePair}
 use Rattle.trace.proofs.Cutting.{split, refuted, whole-pair}

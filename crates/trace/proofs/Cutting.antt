@@ -9,9 +9,10 @@ use lib.Dec.{leb}
 use lib.ListN.{length, take-append-drop, length-append, length-drop, drop-of-length-le, List·getD-append}
 use lib.Seq.{take-append-le, drop-append-le}
 use borrow.Author.Tests.{leb-true, leb-false, le-leb}
-use Rattle.door.specs.Bytes.{wordAt}
-use Rattle.door.specs.Record.{lengthField}
-use Rattle.trace.specs.Cut.{shortest, isLength, startsRecord, recordIn, behind, Pair, startsPair, pairIn, cutIn, cut, joined}
+use Rattle.wire.specs.Words.{wordAt}
+use Rattle.wire.specs.Start.{lengthField}
+use Rattle.wire.specs.Start.{shortest, isLength, startsRecord, recordIn, behind}
+use Rattle.trace.specs.Cut.{Pair, startsPair, pairIn, cutIn, cut, joined}
 
 -- ---- tests as facts
 

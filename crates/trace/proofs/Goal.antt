@@ -11,9 +11,10 @@ use lib.Dec.{leb, ltb}
 use lib.ListN.{length, length-append}
 use lib.Seq.{getD-drop}
 use borrow.Author.Tests.{ltb-true, ltb-false, lt-ltb, le-ltb, le-leb, leb-true, leb-false}
-use Rattle.door.specs.Bytes.{wordAt}
-use Rattle.door.specs.Record.{lengthField}
-use Rattle.trace.specs.Cut.{isLength, behind, startsPair}
+use Rattle.wire.specs.Words.{wordAt}
+use Rattle.wire.specs.Start.{lengthField}
+use Rattle.wire.specs.Start.{isLength, behind}
+use Rattle.trace.specs.Cut.{startsPair}
 use Rattle.trace.specs.Place.{goalOf}
 use Rattle.trace.proofs.Cutting.{both, refuted, not-both-ways, is-length, length-is, Whole, whole-pair, starts-pair, behind-size, field-more, behind-more}
 

@@ -15,7 +15,8 @@ use Rattle.trace.specs.declared.cut.Place.{Place}
 use Rattle.trace.specs.declared.Tally.{Tally}
 use Rattle.trace.specs.declared.State.{State}
 use Rattle.trace.specs.declared.Reader.{Reader}
-use Rattle.trace.specs.Cut.{longest, behind, startsPair, pairIn, cutIn, cut}
+use Rattle.wire.specs.Start.{behind}
+use Rattle.trace.specs.Cut.{longest, startsPair, pairIn, cutIn, cut}
 use Rattle.trace.specs.Replay.{agrees, howMany, firstFrom, five, capped, cappedFive, replayed}
 use Rattle.trace.specs.Place.{goalOf, begun, Holds, heldWith, placeWith, Puts, wholeAt, OnePair}
 use Rattle.trace.specs.Read.{tallyOf, counted, readerOf, stepped, Stands, Read, Reading, Takes}

@@ -4,10 +4,11 @@ use mathlib.Core.Path.{_≡_, refl}
 use mathlib.Core.List.{List, [], _∷_, _++_, map}
 use Prim.Native.Nat.{ℕ, _-_}
 use lib.ListN.{replicate}
-use Rattle.door.specs.Bytes.{wordAt}
-use Rattle.door.specs.Record.{lengthField}
+use Rattle.wire.specs.Words.{wordAt}
+use Rattle.wire.specs.Start.{lengthField}
 use Rattle.trace.specs.declared.Five.{Five}
-use Rattle.trace.specs.Cut.{longest, isLength, startsRecord, recordIn, behind, startsPair, pairIn, cutIn, cut}
+use Rattle.wire.specs.Start.{isLength, startsRecord, recordIn, behind}
+use Rattle.trace.specs.Cut.{longest, startsPair, pairIn, cutIn, cut}
 use Rattle.trace.specs.Replay.{sameBytes, agrees, differs, howMany, firstFrom, five}
 
 unfoldable pub echo : List ℕ → List ℕ

@@ -6,8 +6,9 @@ use mathlib.Core.List.{List, [], _∷_, _++_}
 use Prim.Native.Nat.{ℕ, _+_, _<_}
 use lib.Dec.{leb, ltb, eqb}
 use lib.ListN.{length, take, set}
-use Rattle.door.specs.Record.{lengthField}
-use Rattle.trace.specs.Cut.{longest, isLength, behind, startsPair}
+use Rattle.wire.specs.Start.{lengthField}
+use Rattle.wire.specs.Start.{isLength, behind}
+use Rattle.trace.specs.Cut.{longest, startsPair}
 use Rattle.trace.specs.Replay.{capped}
 use Rattle.trace.specs.declared.cut.Place.{Place}
 

@@ -4,8 +4,9 @@ ghost use mathlib.Core.Path.{_≡_};
 ghost use mathlib.Core.List.{List, []};
 ghost use Prim.Native.Nat.{ℕ, _+_, _<_};
 ghost use lib.ListN.{length};
-ghost use Rattle.door.specs.Bytes.{wordAt};
-ghost use Rattle.trace.specs.Cut.{longest, isLength};
+ghost use Rattle.wire.specs.Words.{wordAt};
+ghost use Rattle.wire.specs.Start.{isLength};
+ghost use Rattle.trace.specs.Cut.{longest};
 ghost use Rattle.trace.specs.Replay.{capped};
 ghost use Rattle.trace.specs.Place.{goalOf, begun, Holds, Puts, wholeAt};
 

@@ -1,5 +1,6 @@
 -- `door::is_aged` meets its contract: the kind decides. Assumes nothing.
-use Rattle.door.specs.Record.{kindField, isAged}
+use Rattle.wire.specs.Start.{kindField}
+use Rattle.door.specs.Record.{isAged}
 use borrow.Author.Needs.{needs}
 use Rattle.door.proofs.is_aged.Statement.{statement}
 use Rattle.door.proofs.is_aged.Tie as tie

@@ -1,6 +1,7 @@
 -- `door::not_frame` meets its contract: one test after the other. Assumes nothing.
 use borrow.Author.Tests.{lt-ltb, le-ltb, eq-eqb, ne-eqb}
-use Rattle.door.specs.Record.{lengthField, kindField, isAged}
+use Rattle.wire.specs.Start.{lengthField, kindField}
+use Rattle.door.specs.Record.{isAged}
 use Rattle.door.specs.Judgement.{notOfKind, notFrame}
 use borrow.Author.Needs.{needs}
 use Rattle.door.proofs.not_frame.Statement.{statement}

@@ -4,7 +4,7 @@ use lib.IntN.{ℤ}
 use mir.Syntax.{w32, w64}
 use mir.Val.{SFits}
 use mir.Facts.{toZ-ofZ, sfits-widen}
-use Rattle.door.specs.Bytes.{Short}
+use Rattle.wire.specs.Words.{Short}
 use borrow.Author.Needs.{needs}
 use Rattle.door.proofs.put_number.Statement.{statement}
 use Rattle.door.proofs.put_number.Tie as tie

@@ -5,20 +5,20 @@ use native.Mathlib.Omega.{arith}
 use mathlib.Core.Bool.{Bool, true, false, not, true≢false}
 use lib.IntN.{ℤ, pos, negsuc, natAbs}
 use lib.Signed.{mag, nonNeg, natAbs-le}
-use Rattle.door.specs.Bytes.{all, Short, unsigned}
+use Rattle.wire.specs.Words.{wordEnd, Short, unsigned}
 use borrow.Author.Needs.{needs}
 use Rattle.door.proofs.word_of.Statement.{statement}
 use Rattle.door.proofs.word_of.Tie as tie
 
 -- what the number's size is of it, by its sign
 below : (z : ℤ) (size : ℕ) (sign : Bool) → Short z → (size ≡ natAbs z) × (mag z < 2 ^ 63) → sign ≡ not (nonNeg z) → sign ≡ true
-    → (all - size ≡ unsigned z) × (all - size < all)
+    → (wordEnd - size ≡ unsigned z) × (wordEnd - size < wordEnd)
 unfolding unsigned
 below (pos n) size sign m s e t = let z : false ≡ true = cc in absurd (true≢false (sym z))
 below (negsuc n) size sign m s e t = omega arith
 
 above : (z : ℤ) (size : ℕ) (sign : Bool) → Short z → (size ≡ natAbs z) × (mag z < 2 ^ 63) → sign ≡ not (nonNeg z) → sign ≡ false
-    → (size ≡ unsigned z) × (size < all)
+    → (size ≡ unsigned z) × (size < wordEnd)
 unfolding unsigned
 above (pos n) size sign m s e t = omega arith
 above (negsuc n) size sign m s e t = let z : true ≡ false = cc in absurd (true≢false z)

@@ -7,9 +7,9 @@ use lib.IntN.{ℤ, pos}
 use lib.ListN.{length, getD, take, set, length-set}
 use lib.Seq.{take-length}
 use borrow.Author.Needs.{needs}
-use Rattle.door.specs.Bytes.{unsigned, numberBytes}
+use Rattle.wire.specs.Words.{unsigned, numberBytes}
 use Rattle.door.specs.Contract.{over}
-use Rattle.door.proofs.Numbers.{numbers-next, numbers-before}
+use Rattle.wire.proofs.Words.{numbers-next, numbers-before}
 use Rattle.door.proofs.Over.{over-word}
 use Rattle.door.proofs.write_numbers.Statement.{statement}
 use Rattle.door.proofs.write_numbers.Tie as tie

@@ -1,6 +1,6 @@
 -- `trace::cut::is_length` meets its contract. Assumes nothing.
 use borrow.Author.Tests.{lt-leb, le-leb}
-use Rattle.trace.specs.Cut.{isLength, shortest}
+use Rattle.wire.specs.Start.{isLength, shortest}
 use Rattle.trace.proofs.cut.is_length.Statement.{statement}
 use Rattle.trace.proofs.cut.is_length.Tie as tie
 

@@ -1,6 +1,6 @@
 -- `trace::cut::length_at` meets its contract. Assumes nothing.
 use native.Mathlib.Omega.{arith}
-use Rattle.door.specs.Bytes.{wordAt}
+use Rattle.wire.specs.Words.{wordAt}
 use borrow.Author.Needs.{needs}
 use Rattle.trace.proofs.cut.length_at.Statement.{statement}
 use Rattle.trace.proofs.cut.length_at.Tie as tie

@@ -1,16 +1,15 @@
--- `door::number_at` meets its contract: the upper half of the unsigned numbers are the negative ones. Assumes nothing.
+-- `wire::number_at` meets its contract: the upper half of the unsigned numbers are the negative ones. Assumes nothing.
 use mathlib.Core.Path.{_≡_, sym, ap, _∙_}
 use Prim.Native.Nat.{ℕ, _<_}
 use native.Mathlib.Omega.{arith}
 use lib.IntN.{ℤ}
-use Rattle.door.specs.Bytes.{all, Short, signed}
-use Rattle.door.proofs.Numbers.{signed-below, signed-above, signed-short}
-use native.Mathlib.Omega.{arith}
+use Rattle.wire.specs.Words.{wordEnd, Short, signed}
+use Rattle.wire.proofs.Words.{signed-below, signed-above, signed-short}
 use borrow.Author.Needs.{needs}
-use Rattle.door.proofs.number_at.Statement.{statement}
-use Rattle.door.proofs.number_at.Tie as tie
+use Rattle.wire.proofs.number_at.Statement.{statement}
+use Rattle.wire.proofs.number_at.Tie as tie
 
-read : {r : ℤ} (word here : ℕ) → r ≡ signed word → (word ≡ here) × (word < all) → (r ≡ signed here) × Short r
+read : {r : ℤ} (word here : ℕ) → r ≡ signed word → (word ≡ here) × (word < wordEnd) → (r ≡ signed here) × Short r
 read word here e w = (e ∙ ap signed (w .0), rw e (signed-short word (w .1)))
 
 word-at-requires : tie.Need-word-at-requires

@@ -10,14 +10,14 @@ use lib.IntN.{ℤ, pos, negsuc, negℤ}
 use lib.ListN.{length, getD, take}
 use lib.Seq.{getD-append-add, take-suc, length-take-le}
 use borrow.Author.Tests.{lt-ltb, le-ltb}
-use Rattle.door.specs.Bytes.{all, half, Short, wordBytes, wordAt, unsigned, signed, numberBytes, numberAt}
+use Rattle.wire.specs.Words.{wordEnd, half, Short, wordBytes, wordAt, unsigned, signed, numberBytes, numberAt}
 
 -- ---- a signed number and its unsigned one
 pub signed-below : (word : ℕ) → word < half → signed word ≡ pos word
 unfolding signed
 signed-below word m = rw (lt-ltb word half m)
 
-pub signed-above : (word : ℕ) → half ≤ word → signed word ≡ negℤ (pos (all - word))
+pub signed-above : (word : ℕ) → half ≤ word → signed word ≡ negℤ (pos (wordEnd - word))
 unfolding signed
 signed-above word m = rw (le-ltb word half m)
 
@@ -25,14 +25,14 @@ negative-short : (x : ℕ) → x ≤ half → Short (negℤ (pos x))
 negative-short zero m = omega arith
 negative-short (suc x) m = omega arith
 
-pub signed-short : (word : ℕ) → word < all → Short (signed word)
+pub signed-short : (word : ℕ) → word < wordEnd → Short (signed word)
 signed-short word m = go (decLt word half)
   where
     go : Dec (word < half) → Short (signed word)
     go (yes h) = rw (signed-below word h) h
-    go (no h) = rw (signed-above word (omega arith)) (negative-short (all - word) (omega arith))
+    go (no h) = rw (signed-above word (omega arith)) (negative-short (wordEnd - word) (omega arith))
 
-pub unsigned-fits : (z : ℤ) → Short z → unsigned z < all
+pub unsigned-fits : (z : ℤ) → Short z → unsigned z < wordEnd
 unfolding unsigned
 unsigned-fits (pos n) m = omega arith
 unsigned-fits (negsuc n) m = omega arith
@@ -41,21 +41,21 @@ pub signed-unsigned : (z : ℤ) → Short z → signed (unsigned z) ≡ z
 unfolding unsigned
 signed-unsigned (pos n) m = signed-below n m
 signed-unsigned (negsuc n) m =
-    let e : all - (all - suc n) ≡ suc n = omega arith in
-    signed-above (all - suc n) (omega arith) ∙ ap (λ x. negℤ (pos x)) e
+    let e : wordEnd - (wordEnd - suc n) ≡ suc n = omega arith in
+    signed-above (wordEnd - suc n) (omega arith) ∙ ap (λ x. negℤ (pos x)) e
 
-unsigned-negative : (x : ℕ) → 0 < x → unsigned (negℤ (pos x)) ≡ all - x
+unsigned-negative : (x : ℕ) → 0 < x → unsigned (negℤ (pos x)) ≡ wordEnd - x
 unfolding unsigned
 unsigned-negative zero m = absurd (omega arith)
 unsigned-negative (suc x) m = refl
 
-pub unsigned-signed : (word : ℕ) → word < all → unsigned (signed word) ≡ word
+pub unsigned-signed : (word : ℕ) → word < wordEnd → unsigned (signed word) ≡ word
 unfolding unsigned
 unsigned-signed word m = go (decLt word half)
   where
     go : Dec (word < half) → unsigned (signed word) ≡ word
     go (yes h) = rw (signed-below word h)
-    go (no h) = rw (signed-above word (omega arith)) (unsigned-negative (all - word) (omega arith) ∙ omega arith)
+    go (no h) = rw (signed-above word (omega arith)) (unsigned-negative (wordEnd - word) (omega arith) ∙ omega arith)
 
 -- ---- an unsigned number and its bytes
 pub bytes-of-word : (low high : ℕ) → low < 256 → wordBytes (low + 256 * high) ≡ low ∷ high ∷ []

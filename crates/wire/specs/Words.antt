@@ -1,5 +1,5 @@
 -- Numbers of two bytes, "all little-endian": the low byte first. A signed one that is negative stands as 2^16 more.
--- Their laws are in proofs/Numbers.antt. Assumes nothing.
+-- Their laws are in proofs/Words.antt. Assumes nothing.
 use mathlib.Core.Bool.{cond}
 use mathlib.Core.List.{List, [], _∷_, _++_}
 use Prim.Native.Nat.{ℕ, _+_, _*_, _-_, _/_, _%_, _<_}
@@ -8,9 +8,9 @@ use lib.Signed.{mag, nonNeg}
 use lib.Dec.{ltb}
 use lib.ListN.{getD}
 
--- how many numbers two bytes have, and how many of them stand for numbers that are not negative
-abbrev pub all : ℕ
-all = 65536
+-- the numbers of two bytes are those below it, and those of half of it stand for numbers that are not negative
+abbrev pub wordEnd : ℕ
+wordEnd = 65536
 
 abbrev pub half : ℕ
 half = 32768
@@ -25,10 +25,10 @@ wordAt bytes k = getD bytes k 0 + 256 * getD bytes (k + 1) 0
 
 -- a signed number as an unsigned one, and back
 unfoldable pub unsigned : ℤ → ℕ
-unsigned z = cond (nonNeg z) (natAbs z) (all - natAbs z)
+unsigned z = cond (nonNeg z) (natAbs z) (wordEnd - natAbs z)
 
 unfoldable pub signed : ℕ → ℤ
-signed word = cond (ltb word half) (pos word) (negℤ (pos (all - word)))
+signed word = cond (ltb word half) (pos word) (negℤ (pos (wordEnd - word)))
 
 -- "two bytes signed": −32,768 to 32,767
 abbrev pub Short : ℤ → Type 0

@@ -1,0 +1,2 @@
+-- Laws of two-byte numbers. Assumes nothing.
+pub mod Words
