@@ -1,13 +1,13 @@
-//! Links the native archives that `tools/native` made; LEAN_ARCHIVES is the folder they stand in.
+//! Links the archives that `tools/native` made; LEAN_ARCHIVES is the folder they stand in.
 fn main() {
-    let folder = std::env::var("LEAN_ARCHIVES").expect("set LEAN_ARCHIVES to the folder of the archives (tools/door and tools/replay do)");
-    println!("cargo:rustc-link-search=native={folder}");
     println!("cargo:rerun-if-env-changed=LEAN_ARCHIVES");
+    let folder = std::env::var("LEAN_ARCHIVES").expect("LEAN_ARCHIVES is the folder of the archives (tools/door, tools/replay and bench/run set it)");
+    println!("cargo:rustc-link-search=native={folder}");
     for name in ["door", "exports"] {
         let archive = format!("{folder}/lib{name}.a");
+        println!("cargo:rerun-if-changed={archive}");
         if std::path::Path::new(&archive).exists() {
             println!("cargo:rustc-link-lib=static={name}");
-            println!("cargo:rerun-if-changed={archive}");
         }
     }
 }

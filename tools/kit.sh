@@ -1,5 +1,5 @@
 # Sourced by the scripts of this repository. Sets `top`, the repository's folder, `rt`, the kit's command, `kit`, the kit's
-# folder, and `start`, the words before a program's path, and gives `quietly`; leaves with 2 where there is no kit.
+# folder, and `start`, the words before a program's path, and gives `quietly` and `rust`; leaves with 2 where there is no kit.
 # shellcheck shell=bash disable=SC2034
 top=$(dirname "$(dirname "$(readlink -f "${BASH_SOURCE[0]}")")")
 
@@ -33,4 +33,11 @@ quietly() { # WORDS...
         printf '%s\n' "$said" >&2
         return 1
     }
+}
+
+# Builds, runs or tests Rust of this repository, with no network. What it builds stands apart from target/, which is rt's own
+# and which rt ci removes (.cargo/config.toml says the same to who calls cargo by hand).
+export CARGO_TARGET_DIR=$top/.cargo/target
+rust() { # build, run or test, WORDS...
+    cargo "$1" --release --quiet --offline --locked --manifest-path "$top/Cargo.toml" "${@:2}"
 }

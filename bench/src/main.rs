@@ -1,14 +1,18 @@
-//! Rides per second of the proved composer, beside two Rust programs on the same rides.
+//! Rides per second of the proved composer, beside two Rust programs on the same rides: the plain one, which adds over all
+//! choices, and the best that we can write.
 //!
-//! All three answer the same requests whole: the refusals are tested, the numerators summed, the points rounded, and both
-//! arrays written. Before anything is timed their answers are compared, every place of both arrays too.
+//! All answer the same requests whole: the refusals are tested, the numerators summed, the points rounded, and all arrays
+//! written. Before anything is timed their answers are compared, every place of every array too.
 
+mod best;
+mod binomials;
 mod clock;
-mod lean;
+mod lent;
 mod night;
 mod plain;
 mod rides;
 
+use lent::{Lent, Long, Short};
 use rides::Ride;
 use second::xorshift::Xorshift;
 use second::Answer;
@@ -18,80 +22,145 @@ use std::{array, env};
 
 const SEED: u64 = 14;
 const RIDES: usize = 10_000;
+/// Rides at the edges of the bounds, compared besides.
+const EDGES: usize = 20_000;
 /// How often this program starts itself anew to time the mixed rides: where its memory happens to lie is worth a few in a
 /// hundred, and is the same for one run.
 const RUNS: usize = 15;
 /// How often a run times each program, in turn with the others.
 const ROUNDS: usize = 7;
+/// How long a program is timed at once, in nanoseconds.
+const SPELL: f64 = 4e7;
 /// Rides of each cell of the tables.
 const ALIKE: usize = 600;
 
-type Compose = fn(u32, u32, u32, u32, u16, &[i32], &[i32], &mut [i64], &mut [i32]) -> Answer;
+type Program<L> = (&'static str, fn(&Ride, &mut L) -> Answer);
 
-/// The programs, with the passes over all rides that take each some 50 ms.
-const PROGRAMS: [(&str, Compose, usize); 3] = [
-    ("composer", lean::compose, 5),
-    ("plain, 64 bits", plain::compose, 5),
-    ("second, 128 bits", second::compose, 1),
-];
-
-/// The two lent arrays, with room for the longest answer.
-struct Lent {
-    exact: [i64; 13],
-    points: [i32; 13],
+/// The programs for one kind of rides. The composer, where it answers such rides, is the first; the plain and the best program
+/// are the last two.
+trait Rides: Lent + Sized + 'static {
+    const PROGRAMS: &'static [Program<Self>];
+    /// How many times the plain program's rides the composer is to answer.
+    const TIMES_PLAIN: f64;
 }
 
-impl Lent {
-    fn marked() -> Self {
-        Lent {
-            exact: [i64::MIN; 13],
-            points: [i32::MIN; 13],
-        }
-    }
+/// The most of the best program's time that the composer is to take.
+const TIMES_BEST: f64 = 1.7;
+/// The most of the plain program's time that it is to take where there is no argument.
+const TIMES_LEAST: f64 = 2.5;
+/// Where the plain program takes longer than this, in nanoseconds, the composer is to be no slower.
+const LONG_RIDE: f64 = 100.0;
 
-    fn answer(&mut self, compose: Compose, ride: &Ride) -> Answer {
-        compose(
-            ride.form,
-            ride.first,
-            ride.second,
-            ride.n,
-            ride.age,
-            &ride.surface,
-            &ride.path,
-            &mut self.exact,
-            &mut self.points,
-        )
+impl Rides for Short {
+    const PROGRAMS: &'static [Program<Short>] = &[
+        ("composer", composer),
+        ("plain", plain::compose::<Short, 13>),
+        ("best", best::compose::<Short, 13>),
+    ];
+    const TIMES_PLAIN: f64 = 5.0;
+}
+
+// ticket 6: the composer comes before these
+impl Rides for Long {
+    const PROGRAMS: &'static [Program<Long>] = &[
+        ("plain", plain::compose::<Long, 25>),
+        ("best", best::compose::<Long, 25>),
+    ];
+    const TIMES_PLAIN: f64 = 15.0;
+}
+
+fn composer(ride: &Ride, lent: &mut Short) -> Answer {
+    native::compose(
+        ride.form,
+        ride.first,
+        ride.second,
+        ride.n,
+        ride.age,
+        &ride.surface,
+        &ride.path,
+        &mut lent.exact,
+        &mut lent.points,
+    )
+}
+
+fn main() {
+    let words: Vec<String> = env::args().skip(1).collect();
+    let words: Vec<&str> = words.iter().map(String::as_str).collect();
+    let mut rng = Xorshift::new(SEED);
+    let short = |rng: &mut Xorshift| rides::mixed(rng, RIDES, Short::MOST);
+    match words[..] {
+        [] => report::<Short>(&mut rng, "once"),
+        ["once"] => print(&once::<Short>(&short(&mut rng))),
+        ["long"] => report::<Long>(&mut rng, "long-once"),
+        ["long-once"] => print(&once::<Long>(&rides::mixed(&mut rng, RIDES, Long::MOST))),
+        ["night"] => {
+            let runs: [_; RUNS] = array::from_fn(|_| run("night-once"));
+            night::report(&short(&mut rng), &runs);
+        }
+        ["night-once"] => print(&night::once(&short(&mut rng))),
+        ["memory", ..] => night::memory(&words[1..], &short(&mut rng)),
+        _ => panic!("{} is not measured", words.join(" ")),
     }
+}
+
+/// One run's times, for the run that started it.
+fn print(times: &[f64]) {
+    let words: Vec<String> = times.iter().map(f64::to_string).collect();
+    println!("{}", words.join(" "));
+}
+
+/// Another run of this program, and the times that it prints.
+fn run(word: &str) -> Vec<f64> {
+    let program = env::current_exe().expect("the program has a path");
+    let ended = Command::new(program)
+        .arg(word)
+        .output()
+        .expect("it can be started again");
+    let said = String::from_utf8_lossy(&ended.stderr);
+    assert!(ended.status.success(), "{said}");
+    let text = String::from_utf8(ended.stdout).expect("it prints numbers");
+    let numbers = text.split_whitespace();
+    numbers
+        .map(|word| word.parse().expect("a number"))
+        .collect()
 }
 
 /// Nanoseconds of processor time a ride, over all rides once for each pass. The arrays are lent again for every ride and
 /// not cleared between rides.
-fn time(compose: Compose, rides: &[Ride], passes: usize) -> f64 {
-    let mut lent = Lent::marked();
+fn time<L: Lent>((_, compose): Program<L>, rides: &[Ride], passes: usize) -> f64 {
+    let mut lent = L::marked();
     let compose = black_box(compose);
     let start = clock::used();
     for _ in 0..passes {
         for ride in rides {
-            black_box(lent.answer(compose, black_box(ride)));
-            black_box(&lent);
+            black_box(compose(black_box(ride), black_box(&mut lent)));
         }
     }
     (clock::used() - start) / (passes * rides.len()) as f64
 }
 
-/// Stops where a program answers a ride otherwise than the second program, or does not accept it.
-fn compare(rides: &[Ride]) {
-    for ride in rides {
-        let mut expected = Lent::marked();
-        let answer = expected.answer(second::compose, ride);
-        assert_eq!(answer.number, 0, "the ride is accepted");
-        for (name, compose, _) in PROGRAMS {
-            let mut lent = Lent::marked();
-            assert_eq!(lent.answer(compose, ride), answer, "{name}");
-            assert_eq!(lent.exact, expected.exact, "{name}");
-            assert_eq!(lent.points, expected.points, "{name}");
+/// The median time of each program, over rounds in which each has its turn; how many passes make a spell is found first, which
+/// also warms up.
+fn times<L: Rides>(rides: &[Ride], rounds: usize, spell: f64) -> Vec<f64> {
+    let programs = L::PROGRAMS;
+    let passes: Vec<usize> = programs
+        .iter()
+        .map(|&program| (spell / (time(program, rides, 1) * rides.len() as f64)) as usize + 1)
+        .collect();
+    let mut all = vec![Vec::new(); programs.len()];
+    for round in 0..rounds {
+        for turn in 0..programs.len() {
+            let at = (round + turn) % programs.len();
+            all[at].push(time(programs[at], rides, passes[at]));
         }
     }
+    all.into_iter()
+        .map(|times| Spread::of(times.into_iter()).median)
+        .collect()
+}
+
+fn once<L: Rides>(rides: &[Ride]) -> Vec<f64> {
+    times::<L>(rides, ROUNDS, SPELL)
 }
 
 /// The median, the least and the greatest.
@@ -113,127 +182,154 @@ impl Spread {
     }
 }
 
-fn main() {
-    let mut rng = Xorshift::new(SEED);
-    let rides = rides::mixed(&mut rng, RIDES);
-    let words: Vec<String> = env::args().skip(1).collect();
-    match words.first().map(String::as_str) {
-        None => {
-            compare(&rides);
-            mixed(&rides);
-            for form in 1..=3 {
-                table(&mut rng, form);
+/// Stops where two programs answer a ride differently, or one does not accept it. Tells how many places were compared, and how
+/// many of them are exact halves.
+fn compare<L: Rides>(rides: &[Ride]) -> [usize; 2] {
+    let (mut places, mut halves) = (0, 0);
+    for ride in rides {
+        let mut expected = None;
+        for (name, compose) in L::PROGRAMS {
+            let mut lent = L::marked();
+            let answer = compose(ride, &mut lent);
+            assert_eq!(answer.number, 0, "{name} accepts the ride");
+            match &expected {
+                None => expected = Some((answer, lent)),
+                Some(first) => assert_eq!((answer, lent), *first, "{name}, {ride:?}"),
             }
         }
-        Some("once") => println!("{}", once(&rides).map(|time| time.to_string()).join(" ")),
-        Some("night") => {
-            night::report(&rides, &array::from_fn::<_, RUNS, _>(|_| run("night-once")))
-        }
-        Some("night-once") => println!(
-            "{}",
-            night::once(&rides).map(|time| time.to_string()).join(" ")
-        ),
-        Some("memory") => night::memory(&words[1..], &rides),
-        Some(other) => panic!("{other} is not measured"),
+        let (answer, lent) = expected.expect("there are programs");
+        places += answer.count as usize;
+        halves += (0..answer.count as usize)
+            .filter(|&place| ride.is_half(place, lent.numerator(place)))
+            .count();
     }
+    [places, halves]
 }
 
-/// One run: the median time of each program.
-fn once(rides: &[Ride]) -> [f64; 3] {
-    let mut rounds = Vec::new();
-    for round in 0..=ROUNDS {
-        let mut times = [0.0; 3];
-        for turn in 0..3 {
-            let at = (round + turn) % 3;
-            let (_, compose, passes) = PROGRAMS[at];
-            times[at] = time(compose, rides, passes);
-        }
-        // the first round warms up
-        if round > 0 {
-            rounds.push(times);
-        }
-    }
-    array::from_fn(|at| Spread::of(rounds.iter().map(|times| times[at])).median)
-}
-
-/// A run of this program.
-fn run<const N: usize>(word: &str) -> [f64; N] {
-    let program = env::current_exe().expect("the program has a path");
-    let ended = Command::new(program)
-        .arg(word)
-        .output()
-        .expect("it can be started again");
-    assert!(
-        ended.status.success(),
-        "{}",
-        String::from_utf8_lossy(&ended.stderr)
-    );
-    let text = String::from_utf8(ended.stdout).expect("it prints numbers");
-    let times: Vec<f64> = text
-        .split_whitespace()
-        .map(|word| word.parse().expect("a number"))
-        .collect();
-    times.try_into().expect("as many numbers as times")
-}
-
-/// The mixed rides.
-fn mixed(rides: &[Ride]) {
+/// The whole report on one kind of rides.
+fn report<L: Rides>(rng: &mut Xorshift, word: &str) {
+    let rides = rides::mixed(rng, RIDES, L::MOST);
+    compare::<L>(&rides);
+    let [places, halves] = compare::<L>(&rides::edges(&mut Xorshift::new(!SEED), EDGES, L::MOST));
     let of_form = |form| rides.iter().filter(|ride| ride.form == form).count();
     let choices: u64 = rides.iter().map(Ride::choices).sum();
     println!(
-        "{RIDES} accepted rides, seed {SEED}: {} of form 1, {} of form 2, {} of form 3; {:.1} choices a ride",
+        "{RIDES} accepted rides, N up to {}, seed {SEED}: {} of form 1, {} of form 2, {} of form 3; {:.1} choices a ride",
+        L::MOST,
         of_form(1),
         of_form(2),
         of_form(3),
         choices as f64 / RIDES as f64
     );
-    println!("All answers and arrays are the same. Output arrays are not cleared between rides.");
-    println!("{RUNS} runs, the median run, and from the least to the greatest; processor time:\n");
-
-    let runs: Vec<[f64; 3]> = (0..RUNS).map(|_| run("once")).collect();
     println!(
-        "{:<18} {:>10}  {:<20} {:>9}",
+        "All answers and arrays are the same, and so they are for {EDGES} rides at the edges ({places} places written, \
+         {halves} of them exact halves)."
+    );
+    println!("Output arrays are not cleared between rides.");
+
+    let runs: Vec<Vec<f64>> = (0..RUNS).map(|_| run(word)).collect();
+    println!("{RUNS} runs, the median run, and from the least to the greatest; processor time:\n");
+    println!(
+        "{:<10} {:>10}  {:<20} {:>9}",
         "", "rides/s", "least to greatest", "ns a ride"
     );
-    for (at, (name, _, _)) in PROGRAMS.iter().enumerate() {
+    for (at, (name, _)) in L::PROGRAMS.iter().enumerate() {
         let rate = Spread::of(runs.iter().map(|times| 1e9 / times[at]));
         let spread = format!("{:.0} to {:.0}", rate.least, rate.most);
         println!(
-            "{name:<18} {:>10.0}  {spread:<20} {:>9.0}",
+            "{name:<10} {:>10.0}  {spread:<20} {:>9.1}",
             rate.median,
             1e9 / rate.median
         );
     }
-    println!();
-    for (at, name) in [(1, "plain"), (2, "second")] {
-        let ratio = Spread::of(runs.iter().map(|times| times[at] / times[0]));
+    let last = L::PROGRAMS.len() - 1;
+    let ratio = |above: usize, below: usize| {
+        Spread::of(runs.iter().map(|times| times[above] / times[below]))
+    };
+    println!("\nratios of one run, the median run, and from the least to the greatest:");
+    let show = |what: &str, ratio: &Spread| {
         println!(
-            "composer : {name} = {:.2} in the median run, {:.2} to {:.2} (above 1: the composer is faster)",
+            "{what:<48} {:>6.2}  {:.2} to {:.2}",
             ratio.median, ratio.least, ratio.most
         );
+    };
+    show("best's rides a second, in plain's", &ratio(last - 1, last));
+    let composed = last > 1;
+    if composed {
+        show("composer's rides a second, in plain's", &ratio(1, 0));
+        show("composer's time, in best's", &ratio(0, last));
     }
-}
 
-/// Nanoseconds a ride of one form over r and N: the composer, and the plain program beside it.
-fn table(rng: &mut Xorshift, form: u32) {
-    println!("\nform {form}: ns a ride, composer / plain");
-    println!(
-        "{:>6} {:>14} {:>14} {:>14} {:>14}",
-        "", "N = 0", "N = 1", "N = 2", "N = 3"
-    );
-    for r in 0..=4 {
-        print!("r = {r}:");
-        for n in 0..=3 {
-            let rides = rides::alike(rng, ALIKE, form, r, n);
-            compare(&rides);
-            let median = |compose| Spread::of((0..9).map(|_| time(compose, &rides, 4))).median;
-            let cell = format!(
-                "{:.0} / {:.0}",
-                median(lean::compose),
-                median(plain::compose)
-            );
-            print!(" {cell:>14}");
+    let names: Vec<&str> = L::PROGRAMS.iter().map(|(name, _)| *name).collect();
+    let mut cells = Vec::new();
+    for form in 1..=3 {
+        println!("\nform {form}: ns a ride, {}", names.join(" / "));
+        print!("{:6}", "");
+        for n in 0..=L::MOST {
+            print!(" {:>18}", format!("N = {n}"));
         }
         println!();
+        for r in 0..=4 {
+            print!("r = {r}:");
+            for n in 0..=L::MOST {
+                let rides = rides::alike(rng, ALIKE, form, r, n);
+                compare::<L>(&rides);
+                let cell = times::<L>(&rides, 9, SPELL / 40.0);
+                let words: Vec<String> = cell.iter().map(|time| format!("{time:.0}")).collect();
+                print!(" {:>18}", words.join(" / "));
+                cells.push((form, r, n, cell));
+            }
+            println!();
+        }
     }
+    if !composed {
+        return println!("\nThe composer does not answer such rides yet.");
+    }
+
+    println!("\nbars:");
+    let bar = |what: &str, holds: bool| {
+        println!("{what}: {}", if holds { "holds" } else { "does not hold" })
+    };
+    let plain = ratio(1, 0).median;
+    bar(
+        &format!(
+            "at least {} times plain's rides a second: {plain:.2}",
+            L::TIMES_PLAIN
+        ),
+        plain >= L::TIMES_PLAIN,
+    );
+    let best = ratio(0, last).median;
+    bar(
+        &format!("at most {TIMES_BEST} times best's time: {best:.2}"),
+        best <= TIMES_BEST,
+    );
+    let slower: Vec<String> = cells
+        .iter()
+        .filter(|(_, _, _, cell)| cell[1] > LONG_RIDE && cell[0] > cell[1])
+        .map(|(form, r, n, cell)| {
+            format!(
+                "form {form}, r = {r}, N = {n}: {:.0} / {:.0}",
+                cell[0], cell[1]
+            )
+        })
+        .collect();
+    bar(
+        &format!(
+            "cells where plain takes over {LONG_RIDE} ns and less than the composer: {}",
+            slower.len()
+        ),
+        slower.is_empty(),
+    );
+    for cell in slower {
+        println!("  {cell}");
+    }
+    let least = cells.iter().filter(|(_, r, ..)| *r == 0);
+    let least = Spread::of(least.map(|(_, _, _, cell)| cell[0] / cell[1]));
+    bar(
+        &format!(
+            "at most {TIMES_LEAST} times plain's time where r = 0: {:.2} in the median cell, {:.2} to {:.2}",
+            least.median, least.least, least.most
+        ),
+        least.most <= TIMES_LEAST,
+    );
 }

@@ -14,28 +14,9 @@ use std::{array, env, process};
 
 const ROUNDS: usize = 7;
 
-extern "C" {
-    /// Each slice crosses as a pointer and a length in elements. 0: the numbers are in `words`; 1: `words` is too short.
-    fn lean_replay(
-        trace: *const u8,
-        trace_length: usize,
-        words: *mut u64,
-        words_length: usize,
-    ) -> u32;
-}
-
-fn lean(trace: &[u8]) -> Five {
-    let mut words = [0; 5];
-    // SAFETY: the pointers and lengths are those of slices that do not overlap, and the function asks nothing else.
-    let code = unsafe { lean_replay(trace.as_ptr(), trace.len(), words.as_mut_ptr(), words.len()) };
-    assert_eq!(code, 0, "five words are enough");
-    let [calls, same, differ, first, rest] = words;
-    (calls, same, differ, first, rest)
-}
-
 type Replay = fn(&[u8]) -> Five;
 
-const PROGRAMS: [(&str, Replay); 2] = [("replay", lean), ("second", replay)];
+const PROGRAMS: [(&str, Replay); 2] = [("replay", native::replay), ("second", replay)];
 
 /// The traces: accepted rides, each with an age, and their replies; and the recorder's mixture, most of it refused.
 fn traces(rides: &[Ride]) -> [(&'static str, Vec<u8>); 2] {
@@ -79,14 +60,14 @@ pub fn once(rides: &[Ride]) -> [f64; 4] {
 }
 
 /// All runs.
-pub fn report(rides: &[Ride], runs: &[[f64; 4]]) {
+pub fn report(rides: &[Ride], runs: &[Vec<f64>]) {
     println!(
         "{} runs, the median run, and from the least to the greatest; processor time:",
         runs.len()
     );
     for (of, (name, trace)) in traces(rides).iter().enumerate() {
         let five = replay(trace);
-        assert_eq!(lean(trace), five, "{name}");
+        assert_eq!(native::replay(trace), five, "{name}");
         let (calls, _, differ, ..) = five;
         let size = trace.len() as f64 / calls as f64;
         println!("\n{name}: {calls} calls, {differ} of them differ, {size:.1} bytes a call");
@@ -135,7 +116,7 @@ fn resident(child: &Child) -> i64 {
 }
 
 /// Runs the replay program on a trace of one pair, then on one of 1 GB, and prints its greatest resident size.
-pub fn memory(program: &[String], rides: &[Ride]) {
+pub fn memory(program: &[&str], rides: &[Ride]) {
     let file = env::temp_dir().join(format!("night-{}", process::id()));
     let (_, piece) = &traces(rides)[1];
     let first = usize::from(piece[0]);
@@ -154,7 +135,7 @@ pub fn memory(program: &[String], rides: &[Ride]) {
             .expect("a trace can be written")
             .sync_all()
             .expect("it is written");
-        let mut child = Command::new(&program[0])
+        let mut child = Command::new(program[0])
             .args(&program[1..])
             .arg(&file)
             .stdout(Stdio::piped())

@@ -1,90 +1,69 @@
-//! The plain program, written for this comparison: the same answers as the composer's, in 64 bits.
+//! The plain program, written for this comparison: the same answers as the composer's.
 //!
 //! It adds over all choices of a path point for each argument, and works out every blossom value from the surface's net,
-//! from scratch. A net stays where the surface has it: one argument rewrites the places of the net one degree lower, in
-//! ascending order, from places that are not yet rewritten. Nothing is allocated, and nothing is shared between choices.
+//! from scratch, in 64 bits; numerators that do not fit these are summed and rounded in 128. A net stays where the surface has
+//! it: one argument rewrites the places of the net one degree lower, in ascending order, from places that are not yet
+//! rewritten. Nothing is allocated, and nothing is shared between choices.
 
+use crate::binomials::Pascal;
+use crate::lent::{Lent, Whole};
+use crate::rides::Ride;
 use second::{Answer, Refusal};
 
-/// The most arguments, the greatest N, the most control values, and the most points.
+/// The most arguments and the most control values.
 const ARGUMENTS: usize = 4;
-const PATH_DEGREE: usize = 3;
 const VALUES: usize = 15;
-const POINTS: usize = ARGUMENTS * PATH_DEGREE + 1;
 
-/// Pascal's triangle, rows 0 to 12.
-static BINOMIALS: [[i64; POINTS]; POINTS] = {
-    let mut rows = [[0; POINTS]; POINTS];
-    let mut n = 0;
-    while n < POINTS {
-        rows[n][0] = 1;
-        let mut k = 1;
-        while k <= n {
-            rows[n][k] = rows[n - 1][k - 1] + rows[n - 1][k];
-            k += 1;
-        }
-        n += 1;
-    }
-    rows
-};
-
-/// Answers one request: refused, neither array changes; accepted, the first L+1 places of each are written.
-#[allow(clippy::too_many_arguments)]
-pub fn compose(
-    form: u32,
-    first: u32,
-    second: u32,
-    n: u32,
-    age: u16,
-    surface: &[i32],
-    path: &[i32],
-    exact: &mut [i64],
-    points: &mut [i32],
-) -> Answer {
-    if !(1..=3).contains(&form) {
+/// Answers one request: refused, no array changes; accepted, the first L+1 places of each are written. L is below ROWS.
+pub fn compose<L: Lent, const ROWS: usize>(ride: &Ride, lent: &mut L) -> Answer {
+    if !(1..=3).contains(&ride.form) {
         return Refusal::Kind.at(0).answer();
     }
-    let arguments = u64::from(first) + u64::from(second);
-    if arguments > ARGUMENTS as u64 || n > PATH_DEGREE as u32 || form != 2 && second != 0 {
+    let arguments = u64::from(ride.first) + u64::from(ride.second);
+    if arguments > ARGUMENTS as u64 || ride.n > L::MOST || ride.form != 2 && ride.second != 0 {
         return Refusal::Degree.at(0).answer();
     }
-    if age > 250 {
+    if ride.age > 250 {
         return Refusal::Stale.at(0).answer();
     }
-    let ride = Ride {
-        form,
-        first: first as usize,
-        second: second as usize,
-        n: n as usize,
-        surface,
-        path,
+    let sum = Sum {
+        form: ride.form,
+        first: ride.first as usize,
+        second: ride.second as usize,
+        n: ride.n as usize,
+        surface: &ride.surface,
+        path: &ride.path,
     };
-    if surface.len() != ride.value_count() {
+    if ride.surface.len() != sum.value_count() {
         return Refusal::Surface.at(0).answer();
     }
-    if path.len() != form as usize * (ride.n + 1) {
+    if ride.path.len() != ride.form as usize * (sum.n + 1) {
         return Refusal::Path.at(0).answer();
     }
-    let length = ride.arguments() * ride.n;
-    if exact.len().min(points.len()) < length + 1 {
+    let length = sum.arguments() * sum.n;
+    if lent.room() < length + 1 {
         return Refusal::Room.at(0).answer();
     }
-    if let Some(place) = surface.iter().position(|v| !(-4096..=4096).contains(v)) {
+    if let Some(place) = ride
+        .surface
+        .iter()
+        .position(|v| !(-4096..=4096).contains(v))
+    {
         return Refusal::Value.at(place).answer();
     }
-    if let Some(place) = path.iter().position(|u| !(0..=1024).contains(u)) {
+    if let Some(place) = ride.path.iter().position(|u| !(0..=1024).contains(u)) {
         return Refusal::Parameter.at(place).answer();
     }
-    if form == 3 {
-        if let Some(place) = path.chunks(3).position(|p| p[0] + p[1] + p[2] != 1024) {
+    if ride.form == 3 {
+        if let Some(place) = ride.path.chunks(3).position(|p| p[0] + p[1] + p[2] != 1024) {
             return Refusal::Balance.at(place).answer();
         }
     }
-    let numerators = ride.numerators();
-    let scale = 1024_i64.pow(ride.arguments() as u32);
-    for place in 0..=length {
-        exact[place] = numerators[place];
-        points[place] = nearest(numerators[place], BINOMIALS[length][place] * scale) as i32;
+    let numerators = sum.numerators::<L::Sum, ROWS>();
+    let scale = 1024_i64.pow(sum.arguments() as u32);
+    for (place, &numerator) in numerators[..=length].iter().enumerate() {
+        let divisor = Pascal::<ROWS>::TRIANGLE[length][place] * scale;
+        lent.write(place, numerator, nearest(numerator, divisor));
     }
     Answer {
         number: 0,
@@ -93,13 +72,18 @@ pub fn compose(
     }
 }
 
-/// The nearest whole number, a half going away from zero. Twice the largest numerator and a divisor fit 64 bits.
-fn nearest(numerator: i64, divisor: i64) -> i64 {
-    (2 * numerator + divisor * numerator.signum()) / (2 * divisor)
+/// The nearest whole number, a half going away from zero. Twice the largest numerator and a divisor fit.
+fn nearest<W: Whole>(numerator: W, divisor: i64) -> i32 {
+    let half = if numerator < W::default() {
+        -divisor
+    } else {
+        divisor
+    };
+    ((W::from(2) * numerator + W::from(half)) / W::from(2 * divisor)).small()
 }
 
 /// An accepted request.
-struct Ride<'a> {
+struct Sum<'a> {
     form: u32,
     first: usize,
     second: usize,
@@ -108,7 +92,7 @@ struct Ride<'a> {
     path: &'a [i32],
 }
 
-impl Ride<'_> {
+impl Sum<'_> {
     /// r
     fn arguments(&self) -> usize {
         self.first + self.second
@@ -121,20 +105,22 @@ impl Ride<'_> {
         }
     }
 
-    fn numerators(&self) -> [i64; POINTS] {
+    #[inline(never)]
+    fn numerators<W: Whole, const ROWS: usize>(&self) -> [W; ROWS] {
         let mut net = [0; VALUES];
         for (value, &travel) in net.iter_mut().zip(self.surface) {
             *value = i64::from(travel);
         }
-        let mut sums = [0; POINTS];
+        let mut sums = [W::default(); ROWS];
         let mut choice = [0; ARGUMENTS];
         let choice = &mut choice[..self.arguments()];
         loop {
             let mut ways = 1;
             for &number in choice.iter() {
-                ways *= BINOMIALS[self.n][number];
+                ways *= Pascal::<ROWS>::TRIANGLE[self.n][number];
             }
-            sums[choice.iter().sum::<usize>()] += ways * self.blossom(net, choice);
+            sums[choice.iter().sum::<usize>()] +=
+                W::from(ways) * W::from(self.blossom(net, choice));
             // the next choice: the last number that can grow does, those after it start again
             let Some(turn) = choice.iter().rposition(|&number| number < self.n) else {
                 return sums;
@@ -145,6 +131,7 @@ impl Ride<'_> {
     }
 
     /// The blossom value of a net at the points of a choice, times 1024^r.
+    #[inline(always)]
     fn blossom(&self, mut net: [i64; VALUES], choice: &[usize]) -> i64 {
         for (turn, &number) in choice.iter().enumerate() {
             let path = &self.path[self.form as usize * number..];

@@ -1,8 +1,10 @@
 //! Accepted rides, the same for the same seed.
 
+use second::binomial::binomial;
 use second::xorshift::Xorshift;
 
 /// One accepted request.
+#[derive(Debug)]
 pub struct Ride {
     pub form: u32,
     pub first: u32,
@@ -18,17 +20,55 @@ impl Ride {
     pub fn choices(&self) -> u64 {
         (u64::from(self.n) + 1).pow(self.first + self.second)
     }
+
+    /// Whether this numerator's point lies exactly between two whole numbers.
+    pub fn is_half(&self, place: usize, numerator: i128) -> bool {
+        let arguments = self.first + self.second;
+        let divisor = binomial((arguments * self.n) as usize, place) * 1024_i128.pow(arguments);
+        (2 * numerator).rem_euclid(2 * divisor) == divisor
+    }
 }
 
-/// Rides of mixed forms: the form, the degrees of that form and N are each drawn evenly from all legal ones.
-pub fn mixed(rng: &mut Xorshift, count: usize) -> Vec<Ride> {
+/// Rides of mixed forms with N at most `most`: the form, the degrees of that form and N are each drawn evenly from all legal
+/// ones.
+pub fn mixed(rng: &mut Xorshift, count: usize, most: u32) -> Vec<Ride> {
+    let rides = (0..count).map(|_| any(rng, most)).collect();
+    aged(rng, rides)
+}
+
+fn any(rng: &mut Xorshift, most: u32) -> Ride {
+    let form = rng.pick(&[1, 2, 3]);
+    let degrees: Vec<(u32, u32)> = (0..=4).flat_map(|r| splits(form, r)).collect();
+    let degrees = rng.pick(&degrees);
+    let n = rng.below(most as usize + 1) as u32;
+    ride(rng, form, degrees, n)
+}
+
+/// Rides at the edges: mixed shapes, path numbers 0, 512 and 1024, and by turns all control values 4096, all −4096, each the
+/// one or the other, and small ones, which come out at exact halves.
+pub fn edges(rng: &mut Xorshift, count: usize, most: u32) -> Vec<Ride> {
     let rides = (0..count)
-        .map(|_| {
-            let form = rng.pick(&[1, 2, 3]);
-            let degrees: Vec<(u32, u32)> = (0..=4).flat_map(|r| splits(form, r)).collect();
-            let degrees = rng.pick(&degrees);
-            let n = rng.below(4) as u32;
-            ride(rng, form, degrees, n)
+        .map(|turn| {
+            let mut ride = any(rng, most);
+            for value in &mut ride.surface {
+                *value = match turn % 4 {
+                    0 => 4096,
+                    1 => -4096,
+                    2 => rng.pick(&[-4096, 4096]),
+                    _ => rng.between(-9, 9),
+                };
+            }
+            for point in ride.path.chunks_mut(ride.form as usize) {
+                if let [x, y, z] = point {
+                    let (half, whole) = (rng.below(3), rng.below(3));
+                    for (part, number) in [x, y, z].into_iter().enumerate() {
+                        *number = 512 * (i32::from(part == half) + i32::from(part == whole));
+                    }
+                } else {
+                    point.fill_with(|| rng.pick(&[0, 512, 1024]));
+                }
+            }
+            ride
         })
         .collect();
     aged(rng, rides)

@@ -1,21 +1,79 @@
-//! The proved door and the proved replay, as Rust calls them. Each program links only the archive that it uses, so both are
-//! compiled where they are called.
+//! The proved composer, door and replay, as Rust calls them: none has a condition on its arguments, and slices of which one is
+//! exclusive never overlap, so all are safe. Each program links only the archive that it uses, so each is compiled where it is
+//! called.
 
 use second::replay::Five;
+use second::Answer;
 
+// each slice crosses as a pointer and a length in elements
 extern "C" {
+    fn lean_compose(
+        form: u32,
+        first: u32,
+        second: u32,
+        n: u32,
+        age: u16,
+        surface: *const i32,
+        surface_length: usize,
+        path: *const i32,
+        path_length: usize,
+        exact: *mut i64,
+        exact_length: usize,
+        points: *mut i32,
+        points_length: usize,
+        words: *mut u64,
+        words_length: usize,
+    ) -> u32;
     fn door_reply(request: *const u8, request_length: usize, reply: *mut u8, reply_length: usize) -> usize;
     fn lean_replay(trace: *const u8, trace_length: usize, words: *mut u64, words_length: usize) -> u32;
 }
 
-/// Judges and composes one request: `include/lean_door.h` says what the bytes are. The door has no condition on its
-/// arguments, and two slices of which one is exclusive never overlap, so this is safe.
+/// Answers one request of document 01.
+#[inline]
+#[allow(clippy::too_many_arguments)]
+pub fn compose(
+    form: u32,
+    first: u32,
+    second: u32,
+    n: u32,
+    age: u16,
+    surface: &[i32],
+    path: &[i32],
+    exact: &mut [i64],
+    points: &mut [i32],
+) -> Answer {
+    let mut words = [0; 3];
+    let code = unsafe {
+        lean_compose(
+            form,
+            first,
+            second,
+            n,
+            age,
+            surface.as_ptr(),
+            surface.len(),
+            path.as_ptr(),
+            path.len(),
+            exact.as_mut_ptr(),
+            exact.len(),
+            points.as_mut_ptr(),
+            points.len(),
+            words.as_mut_ptr(),
+            words.len(),
+        )
+    };
+    assert_eq!(code, 0, "three words are enough");
+    let [number, place, count] = words.map(|word| word as u32);
+    Answer { number, place, count }
+}
+
+/// Judges and composes one request: `include/lean_door.h` says what the bytes are.
 #[inline]
 pub fn door(request: &[u8], reply: &mut [u8]) -> usize {
     unsafe { door_reply(request.as_ptr(), request.len(), reply.as_mut_ptr(), reply.len()) }
 }
 
-/// The five numbers of a trace. The replay has no condition on its arguments either.
+/// The five numbers of a trace.
 #[inline]
 pub fn replay(trace: &[u8]) -> Five {
     let mut words = [0; 5];

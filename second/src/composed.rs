@@ -2,8 +2,30 @@
 
 use crate::binomial::binomial;
 use crate::blossom::{blossom, Argument, Net};
+use crate::edition::Edition;
 use crate::quantity::{PathNumber, Travel};
+use crate::refusal::Refused;
+use crate::rounding::nearest;
 use crate::shape::{Form, Shape};
+use crate::Request;
+
+/// The numerators of a request with their rounded points, or why it is
+/// refused when each array has this room.
+pub fn composed(
+    request: &Request,
+    edition: &Edition,
+    room: usize,
+) -> Result<Vec<(i128, i32)>, Refused> {
+    let accepted = request.check(edition, room)?;
+    let shape = accepted.shape;
+    let rounded = |(place, numerator)| {
+        let point = nearest(numerator, shape.divisor(place));
+        let point = i32::try_from(point).expect("a point is at most 4096 in size");
+        (numerator, point)
+    };
+    let numerators = numerators(&shape, &accepted.surface, &accepted.path);
+    Ok(numerators.into_iter().enumerate().map(rounded).collect())
+}
 
 /// The numerators at R = 0 to L.
 ///

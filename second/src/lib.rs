@@ -6,14 +6,25 @@
 //! blossom is worked out afresh from the net, in numbers wide enough that no
 //! step can come near their ends. The door asks the same of bytes: one request
 //! record, one reply record; and a replay asks the door a whole night.
+//!
+//! What tickets ask that have not landed is here too, each in its own module
+//! and with its own tests: longer rides (`long`), the count of entries, patches,
+//! the tick, the converter, the card, the sheet and the salvage.
 
+pub mod agree;
 pub mod beside;
 pub mod beside_replay;
 pub mod binomial;
 pub mod blossom;
+pub mod card;
 pub mod composed;
+pub mod convert;
 pub mod door;
+pub mod edition;
+pub mod entries;
 pub mod line;
+pub mod long;
+pub mod patch;
 pub mod quantity;
 pub mod record;
 pub mod refusal;
@@ -21,9 +32,15 @@ pub mod replay;
 pub mod request;
 pub mod ride;
 pub mod rounding;
+pub mod salvage;
 pub mod sample;
 pub mod shape;
+pub mod sheet;
+pub mod tick;
+pub mod words;
 pub mod xorshift;
+
+use edition::TODAY;
 
 pub use refusal::Refusal;
 pub use request::Request;
@@ -37,6 +54,17 @@ pub struct Answer {
     pub number: u32,
     pub place: u32,
     pub count: u32,
+}
+
+impl Answer {
+    /// Accepted, with this many points.
+    pub fn accepted(count: usize) -> Self {
+        Answer {
+            number: 0,
+            place: 0,
+            count: count as u32,
+        }
+    }
 }
 
 /// Answers one request; its age is that of the tilt sample in milliseconds.
@@ -64,20 +92,14 @@ pub fn compose(
         surface,
         path,
     };
-    let accepted = match request.check(exact.len(), points.len()) {
-        Ok(accepted) => accepted,
+    let room = exact.len().min(points.len());
+    let composed = match composed::composed(&request, &TODAY, room) {
+        Ok(composed) => composed,
         Err(refused) => return refused.answer(),
     };
-    let shape = accepted.shape;
-    let numerators = composed::numerators(&shape, &accepted.surface, &accepted.path);
-    for (place, &numerator) in numerators.iter().enumerate() {
-        let point = rounding::nearest(numerator, shape.divisor(place));
+    for (place, &(numerator, point)) in composed.iter().enumerate() {
         exact[place] = i64::try_from(numerator).expect("a numerator is at most 924·2^52 in size");
-        points[place] = i32::try_from(point).expect("a point is at most 4096 in size");
+        points[place] = point;
     }
-    Answer {
-        number: 0,
-        place: 0,
-        count: numerators.len() as u32,
-    }
+    Answer::accepted(composed.len())
 }

@@ -2,9 +2,9 @@
 //!
 //! A request line is whole numbers with blanks between them: form, first
 //! degree, second degree, N; the count of control values and the values; the
-//! count of path numbers and the numbers. After these there is nothing, or
-//! the age, or the two rooms, or the two rooms and the age; an age that the
-//! line does not name is 0.
+//! count of path numbers and the numbers. After these come, if wanted, the
+//! two rooms, and as the last word, if wanted, the age as a marked word,
+//! `age=251`; an age that the line does not name is 0.
 
 use crate::{compose, Answer};
 use std::fmt::Write;
@@ -17,6 +17,9 @@ pub const MOST: i64 = 64;
 
 /// The room of both arrays when a line names none: the longest answer.
 pub const OWN_ROOM: usize = 13;
+
+/// What marks the word of an age.
+const MARK: &[u8] = b"age=";
 
 /// What the places for numerators hold beforehand.
 pub const EXACT_FILL: i64 = -7;
@@ -51,7 +54,7 @@ pub struct Reply {
 
 /// Whether a byte is a blank.
 fn blank(byte: &u8) -> bool {
-    matches!(byte, b' ' | b'\t')
+    matches!(byte, b' ' | b'\t' | b'\r')
 }
 
 /// Whether a line is passed over: only blanks, or begins with `#`.
@@ -71,12 +74,11 @@ pub fn read(line: &[u8]) -> Result<Asked, String> {
     let n = words.unsigned("the path's degree")?;
     let surface = words.list("control value")?;
     let path = words.list("path number")?;
-    let (rooms, age) = match words.left() {
-        0 => (None, 0),
-        1 => (None, words.age()?),
-        2 => (Some(words.rooms()?), 0),
-        3 => (Some(words.rooms()?), words.age()?),
-        left => return Err(format!("{left} words left over, more than 3")),
+    let age = words.age()?;
+    let rooms = match words.left() {
+        0 => None,
+        2 => Some(words.rooms()?),
+        left => return Err(format!("{left} words left over, not 0 or 2")),
     };
     Ok(Asked {
         form,
@@ -143,9 +145,20 @@ impl<'a> Words<'a> {
         Ok((exact, points))
     }
 
+    /// The age, if the last word is marked as one.
     fn age(&mut self) -> Result<u16, String> {
-        self.number("the age", 0, i64::from(u16::MAX))
-            .map(|value| value as u16)
+        let marked = |word: &&[u8]| word.starts_with(MARK);
+        let Some(word) = self.words.as_slice().last().copied().filter(marked) else {
+            return Ok(0);
+        };
+        self.words.next_back();
+        let shown = word.escape_ascii();
+        match &word[MARK.len()..] {
+            digits if digits.starts_with(b"-") => None,
+            digits => whole(digits),
+        }
+        .and_then(|value| u16::try_from(value).ok())
+        .ok_or_else(|| format!("the age: `{shown}` is no age of 0 to 65535"))
     }
 
     /// A count and as many values.
@@ -188,7 +201,7 @@ impl Asked {
             append(&mut line, &[exact, points]);
         }
         if self.age > 0 {
-            append(&mut line, &[self.age]);
+            write!(line, " age={}", self.age).expect("a string takes every word");
         }
         line
     }

@@ -1,9 +1,11 @@
 //! Replaying a night: a recorded trace, request and reply in turn.
 
-use crate::door::{door, ROOM};
+use crate::door::door_of;
+use crate::edition::{Edition, TODAY};
+use crate::record::HEAD;
 
 /// The least and the largest length of a recorded record.
-pub const LENGTHS: [usize; 2] = [8, 126];
+pub const LENGTHS: [usize; 2] = [HEAD, TODAY.longest];
 
 /// What a replay counts: calls, same, differ, first and rest.
 pub type Five = (u64, u64, u64, u64, u64);
@@ -12,16 +14,21 @@ pub type Five = (u64, u64, u64, u64, u64);
 /// recorded one, to the byte.
 ///
 /// `first` is the first pair that differs, counted from 1, or 0 if none does.
-/// A record length outside 8 to 126, or a pair cut off, ends the reading; the
-/// bytes from that pair's start are `rest`.
+/// A record length outside its bounds, or a pair cut off, ends the reading;
+/// the bytes from that pair's start are `rest`.
 pub fn replay(trace: &[u8]) -> Five {
+    replay_of(&TODAY, trace)
+}
+
+/// The same of any edition.
+pub fn replay_of(edition: &Edition, trace: &[u8]) -> Five {
     let (mut calls, mut same, mut first) = (0, 0, 0);
     let mut rest = trace;
-    while let Some((request, reply, after)) = pair(rest) {
+    while let Some((request, reply, after)) = pair(edition.longest, rest) {
         rest = after;
         calls += 1;
-        let mut room = [0; ROOM];
-        let count = door(request, &mut room);
+        let mut room = vec![0; edition.room()];
+        let count = door_of(edition, request, &mut room);
         if room[..count] == *reply {
             same += 1;
         } else if first == 0 {
@@ -31,18 +38,18 @@ pub fn replay(trace: &[u8]) -> Five {
     (calls, same, calls - same, first, rest.len() as u64)
 }
 
-/// The request and the reply with which a trace starts, and what comes after.
-fn pair(trace: &[u8]) -> Option<(&[u8], &[u8], &[u8])> {
-    let (request, after) = split(trace)?;
-    let (reply, after) = split(after)?;
+/// The request and the reply with which a trace starts, and what comes after;
+/// records are at most `longest`.
+pub fn pair(longest: usize, trace: &[u8]) -> Option<(&[u8], &[u8], &[u8])> {
+    let (request, after) = split(longest, trace)?;
+    let (reply, after) = split(longest, after)?;
     Some((request, reply, after))
 }
 
 /// The record with which a trace starts, and what comes after.
-fn split(trace: &[u8]) -> Option<(&[u8], &[u8])> {
+pub fn split(longest: usize, trace: &[u8]) -> Option<(&[u8], &[u8])> {
     let length = usize::from(u16::from_le_bytes(*trace.first_chunk()?));
-    let [least, most] = LENGTHS;
-    if length < least || length > most {
+    if !(HEAD..=longest).contains(&length) {
         return None;
     }
     trace.split_at_checked(length)

@@ -1,14 +1,12 @@
 //! A request and its check.
 
+use crate::edition::Edition;
 use crate::quantity::{PathNumber, Travel, SCALE};
 use crate::refusal::{Refusal, Refused};
 use crate::shape::{Form, Shape};
 
 /// The largest r.
 pub const MOST_ARGUMENTS: u64 = 4;
-
-/// The largest N.
-pub const MOST_PATH_DEGREE: u64 = 3;
 
 /// The largest age of a tilt sample, in milliseconds.
 pub const MOST_AGE: u16 = 250;
@@ -37,26 +35,26 @@ pub struct Accepted {
 impl Request<'_> {
     /// The shape, unless KIND, DEGREE or STALE comes before; the arrays do
     /// not matter yet.
-    pub fn shape(&self) -> Result<Shape, Refused> {
+    pub fn shape(&self, edition: &Edition) -> Result<Shape, Refused> {
         let form = Form::from_number(self.form).ok_or(Refusal::Kind.at(0))?;
-        let shape = self.degrees(form).ok_or(Refusal::Degree.at(0))?;
+        let most = edition.most_path_degree as u64;
+        let shape = self.degrees(form, most).ok_or(Refusal::Degree.at(0))?;
         if self.age > MOST_AGE {
             return Err(Refusal::Stale.at(0));
         }
         Ok(shape)
     }
 
-    /// Tests the nine refusals in their order, with these rooms for the
-    /// numerators and the points.
-    pub fn check(&self, exact_room: usize, points_room: usize) -> Result<Accepted, Refused> {
-        let shape = self.shape()?;
+    /// Tests the nine refusals in their order, with this room in each array.
+    pub fn check(&self, edition: &Edition, room: usize) -> Result<Accepted, Refused> {
+        let shape = self.shape(edition)?;
         if self.surface.len() != shape.control_count() {
             return Err(Refusal::Surface.at(0));
         }
         if self.path.len() != shape.path_count() {
             return Err(Refusal::Path.at(0));
         }
-        if exact_room.min(points_room) < shape.length() + 1 {
+        if room < shape.length() + 1 {
             return Err(Refusal::Room.at(0));
         }
         let surface = each(self.surface, Travel::new).map_err(|at| Refusal::Value.at(at))?;
@@ -76,10 +74,10 @@ impl Request<'_> {
 
     /// The shape, if the degrees keep their limits. The sum is taken in 64
     /// bits, so that no two degrees wrap.
-    fn degrees(&self, form: Form) -> Option<Shape> {
+    fn degrees(&self, form: Form, most_path_degree: u64) -> Option<Shape> {
         let arguments = u64::from(self.first) + u64::from(self.second);
         let legal = arguments <= MOST_ARGUMENTS
-            && u64::from(self.n) <= MOST_PATH_DEGREE
+            && u64::from(self.n) <= most_path_degree
             && (form == Form::Tensor || self.second == 0);
         legal.then_some(Shape {
             form,

@@ -33,12 +33,12 @@ pub fn drawn(points: &[i32], k: i128, q: i128) -> i128 {
 /// The exact curve at k/q, times 1024^r·q^L.
 ///
 /// A numerator already holds its binomial(L, R).
-pub fn exact(numerators: &[i64], k: i128, q: i128) -> i128 {
+pub fn exact(numerators: &[i128], k: i128, q: i128) -> i128 {
     let length = numerators.len() - 1;
     numerators
         .iter()
         .enumerate()
-        .map(|(at, &numerator)| power(q - k, length - at) * power(k, at) * i128::from(numerator))
+        .map(|(at, &numerator)| power(q - k, length - at) * power(k, at) * numerator)
         .sum()
 }
 
@@ -74,7 +74,7 @@ pub fn surface(shape: &Shape, surface: &[Travel], path: &[PathNumber], k: i128, 
 }
 
 /// Σ n!/(i!·j!·k!)·x^i·y^j·z^k·p(i,j,k), the values in 01's order.
-fn triangle(values: &[i128], n: usize, [x, y, z]: [i128; 3]) -> i128 {
+pub fn triangle(values: &[i128], n: usize, [x, y, z]: [i128; 3]) -> i128 {
     let mut next = values.iter();
     let mut sum = 0;
     for i in 0..=n {

@@ -3,6 +3,7 @@
 //! The bound: with q at most 16 every reading is at most 2^100 in size (see
 //! `ride`), so twice a difference is below 2^102 and fits 128 bits.
 
+use second::edition::TODAY;
 use second::request::Accepted;
 use second::sample::{Expect, Sampler};
 use second::xorshift::Xorshift;
@@ -28,7 +29,9 @@ fn rides(seed: u64, draws: usize) -> impl Iterator<Item = (Accepted, line::Reply
             surface: &asked.surface,
             path: &asked.path,
         };
-        let accepted = request.check(13, 13).expect("the ride is accepted");
+        let accepted = request
+            .check(&TODAY, TODAY.most_points())
+            .expect("the ride is accepted");
         Some((accepted, reply))
     })
 }
@@ -38,7 +41,8 @@ fn compare(ride: &Accepted, reply: &line::Reply, k: i128, q: i128) {
     let shape = &ride.shape;
     let surface = ride::surface(shape, &ride.surface, &ride.path, k, q);
     // The exact curve is the surface at the path's place.
-    assert_eq!(ride::exact(&reply.exact, k, q), surface);
+    let numerators: Vec<i128> = reply.exact.iter().map(|&n| i128::from(n)).collect();
+    assert_eq!(ride::exact(&numerators, k, q), surface);
     // The drawn curve is within half a unit of it.
     let unit = shape.scale() * q.pow(shape.length() as u32);
     let drawn = ride::drawn(&reply.points, k, q) * shape.scale();

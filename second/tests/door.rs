@@ -1,7 +1,8 @@
 //! The door: the rides to reckon by hand as bytes, each refusal on both
 //! sides of its condition, the order, and the room.
 
-use second::door::door;
+use second::door::{door, ROOM};
+use second::edition::TODAY;
 
 /// A request record; its length is true.
 fn record(four: [u8; 4], surface: &[i16], path: &[i16]) -> Vec<u8> {
@@ -30,8 +31,8 @@ fn true_length(mut bytes: Vec<u8>) -> Vec<u8> {
 
 /// What the door tells; the room beyond the reply must stay.
 fn told(request: &[u8]) -> Vec<u8> {
-    let mut least = [0xa5; 34];
-    let mut long = [0x5a; 60];
+    let mut least = [0xa5; ROOM];
+    let mut long = [0x5a; ROOM + 26];
     let count = door(request, &mut least);
     assert_eq!(door(request, &mut long), count);
     assert_eq!(least[..count], long[..count]);
@@ -119,11 +120,11 @@ fn room() {
     let bad = record([4, 0, 0, 0], &[], &[]);
     for request in [&good[..], &small, &bad, &[], &good[..9]] {
         let full = told(request);
-        for count in 0..=60 {
+        for count in 0..=ROOM as u8 + 26 {
             let mut reply: Vec<u8> = (0..count).map(|at| 0xc0 ^ at).collect();
             let before = reply.clone();
             let told = door(request, &mut reply);
-            if count < 34 {
+            if usize::from(count) < ROOM {
                 assert_eq!(told, 0);
                 assert_eq!(reply, before);
             } else {
@@ -272,13 +273,13 @@ fn kind() {
 /// accepted count otherwise.
 #[test]
 fn degree() {
-    let bytes = [0, 1, 2, 3, 4, 5, 6, 127, 128, 252, 253, 254, 255];
+    let bytes = [0, 1, 2, 3, 4, 5, 6, 7, 127, 128, 252, 253, 254, 255];
     for form in 1..=3 {
         for first in bytes {
             for second in bytes {
                 for n in bytes {
                     let [l, m, q] = [first, second, n].map(usize::from);
-                    let legal = l + m <= 4 && q <= 3 && (form == 2 || m == 0);
+                    let legal = l + m <= 4 && q <= TODAY.most_path_degree && (form == 2 || m == 0);
                     if !legal {
                         for body in [0, 1, 2, 5] {
                             let four = [form, first, second, n];

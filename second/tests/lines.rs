@@ -25,45 +25,70 @@ fn answer_lines() {
     assert_eq!(told("1 1 0 1 2 0 4097 2 0 1025"), "6 1 0 | |");
 }
 
-/// After the path numbers: nothing, the age, the rooms, or the rooms and the
-/// age.
+/// After the path numbers come, if wanted, two rooms and then a marked age.
 #[test]
 fn ages() {
     let p1 = "1 1 0 1 2 0 100 2 0 1024";
     let with = |words: &str| told(&format!("{p1} {words}"));
     let good = "0 0 2 | 0 102400 | 0 100";
     for words in [
-        "", "0", "7", "249", "250", "0250", "-0", "2 2", "2 2 0", "2 2 250",
+        "",
+        "age=0",
+        "age=7",
+        "age=249",
+        "age=250",
+        "age=0250",
+        "2 2",
+        "2 2 age=0",
+        "2 2 age=250",
+        "2 2 age=250\r",
     ] {
         assert_eq!(with(words), good);
     }
-    assert_eq!(with("251"), "10 0 0 | |");
-    assert_eq!(with("65535"), "10 0 0 | |");
-    assert_eq!(with("3 2 250"), "0 0 2 | 0 102400 -7 | 0 100");
-    assert_eq!(with("3 2 251"), "10 0 0 | -7 -7 -7 | -9 -9");
-    assert_eq!(with("1 2 251"), "10 0 0 | -7 | -9 -9");
-    assert_eq!(with("1 2 250"), "5 0 0 | -7 | -9 -9");
+    assert_eq!(with("age=251"), "10 0 0 | |");
+    assert_eq!(with("age=65535"), "10 0 0 | |");
+    assert_eq!(with("3 2 age=250"), "0 0 2 | 0 102400 -7 | 0 100");
+    assert_eq!(with("3 2 age=251"), "10 0 0 | -7 -7 -7 | -9 -9");
+    assert_eq!(with("1 2 age=251"), "10 0 0 | -7 | -9 -9");
+    assert_eq!(with("1 2 age=250"), "5 0 0 | -7 | -9 -9");
     for words in [
-        "65536",
-        "-1",
+        "0",
+        "251",
         "x",
-        "2 2 65536",
-        "2 2 -1",
-        "65 2 0",
-        "2 2 0 0",
+        "2",
+        "2 2 0",
+        "2 2 2 2",
+        "age=",
+        "age=x",
+        "age=65536",
+        "age=-1",
+        "age=-0",
+        "age=+1",
+        "Age=1",
+        "age",
+        "age =1",
+        "age= 1",
+        "age=1 2",
+        "age=1 2 2",
+        "age=1 age=1",
+        "2 age=1",
+        "2 2 age=65536",
+        "65 2 age=0",
+        "2 2 age=0 0",
     ] {
         assert!(read(format!("{p1} {words}").as_bytes()).is_err(), "{words}");
     }
     let read = |words: &str| read(format!("{p1} {words}").as_bytes()).unwrap();
     assert_eq!((read("").age, read("").rooms), (0, None));
-    assert_eq!((read("13").age, read("13").rooms), (13, None));
+    let alone = read("age=13");
+    assert_eq!((alone.age, alone.rooms), (13, None));
     assert_eq!((read("13 9").age, read("13 9").rooms), (0, Some((13, 9))));
-    let three = read("13 9 65535");
+    let three = read("13 9 age=65535");
     assert_eq!((three.age, three.rooms), (65535, Some((13, 9))));
-    for words in ["13", "13 9", "13 9 65535"] {
+    for words in ["age=13", "13 9", "13 9 age=65535"] {
         assert_eq!(read(words).line(), format!("{p1} {words}"));
     }
-    assert_eq!(read("0").line(), p1);
+    assert_eq!(read("age=0").line(), p1);
 }
 
 #[test]
@@ -73,6 +98,7 @@ fn blanks_zeros_and_signs() {
         &b"\t1\t0 0  0 1\t -5 1 7 "[..],
         b"0001 00 0 0 01 -0005 1 007",
         b"1 -0 -00 0 1 -5 1 7",
+        b"\r1 0\r0 0 1 -5 1 7\r",
     ] {
         assert_eq!(read(same).unwrap(), plain);
     }
@@ -82,7 +108,7 @@ fn blanks_zeros_and_signs() {
 fn ends_of_the_numbers() {
     let line = "4294967295 4294967295 0 4294967295 1 -2147483648 1 2147483647 64 0";
     assert_eq!(read(line.as_bytes()).unwrap().line(), line);
-    let line = &format!("{line} 65535");
+    let line = &format!("{line} age=65535");
     assert_eq!(read(line.as_bytes()).unwrap().line(), *line);
     for bad in [
         "4294967296 0 0 0 0 0",
@@ -96,16 +122,18 @@ fn ends_of_the_numbers() {
         "0 0 0 0 0 65",
         "0 0 0 0 0 0 65 0",
         "0 0 0 0 0 0 0 -1",
-        "0 0 0 0 0 0 65536",
-        "0 0 0 0 0 0 -1",
-        "0 0 0 0 0 0 0 0 65536",
+        "0 0 0 0 0 0 age=65536",
+        "0 0 0 0 0 0 age=-1",
+        "0 0 0 0 0 0 0 0 age=65536",
+        "0 0 0 0 0 0 0",
+        "0 0 0 0 0 0 0 0 0",
         "0 0 0 0 0 0 0 0 0 0",
         "0 0 0 0 0",
         "0 0 0 0 1 5",
         "0 0 0 0 1 5 1",
         "0",
         " #",
-        "0 0 0 0 0 0\r",
+        "0 0 0 0 0 0\x0b",
         "0 0 0 0 0 +0",
         "0 0 0 0 0 - 0",
         "99999999999999999999999999999999 0 0 0 0 0",
@@ -127,10 +155,10 @@ fn the_longest_line() {
 
 #[test]
 fn lines_passed_over() {
-    for line in [&b""[..], b" ", b"\t \t", b"#", b"# x", b"#\r"] {
+    for line in [&b""[..], b" ", b"\t \t", b"\r", b" \r", b"#", b"# x", b"#\r"] {
         assert!(passed_over(line));
     }
-    for line in [&b"\r"[..], b" #", b"\t#", b"0", b"\x0b"] {
+    for line in [&b"\x0c"[..], b" #", b"\t#", b"\r#", b"0", b"\x0b"] {
         assert!(!passed_over(line));
     }
 }

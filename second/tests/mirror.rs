@@ -1,6 +1,6 @@
 //! Port and starboard mirror: all control values negated, all points negated.
 
-use second::door::door;
+use second::door::{door, ROOM};
 use second::line::{read, Asked, EXACT_FILL, POINT_FILL};
 use second::record;
 use second::sample::{Expect, Sampler};
@@ -60,7 +60,7 @@ fn p3_and_p4() {
 fn every_accepted_request_comes_mirrored() {
     let mut sampler = Sampler::new(21);
     let (mut accepted, mut halves) = (0, 0);
-    for _ in 0..12_000 {
+    for _ in 0..14_000 {
         let sample = sampler.draw();
         assert!(!sample.kind.starts_with("mirror"));
         if sample.expect != Expect::Number(0) {
@@ -99,7 +99,7 @@ fn the_door_mirrors() {
         }
         let asked = read(&sample.line).unwrap();
         let [(one, count), (two, same)] = [&asked, &asked.mirrored()].map(|asked| {
-            let mut reply = [0; 34];
+            let mut reply = [0; ROOM];
             let count = door(&record::request(asked), &mut reply);
             (reply, count)
         });

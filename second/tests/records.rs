@@ -1,7 +1,7 @@
 //! The random records, and this door beside others.
 
 use second::beside::{doors, doors_agree};
-use second::door::door;
+use second::door::{door, ROOM};
 use second::sample::records::Records;
 use std::collections::BTreeMap;
 
@@ -14,7 +14,7 @@ fn records_are_what_they_say() {
     let mut rooms: BTreeMap<usize, u32> = BTreeMap::new();
     for _ in 0..60_000 {
         let record = records.draw();
-        let mut reply = [0; 34];
+        let mut reply = [0; ROOM];
         let count = door(&record.bytes, &mut reply);
         assert!(count >= 8);
         if let Some(number) = record.expect {
@@ -76,7 +76,7 @@ fn wrong_doors_are_found() {
     wrong(|request, reply| door(request, reply).max(8));
     // It asks only for the room of this reply.
     wrong(|request, reply| {
-        let mut own = [0; 34];
+        let mut own = [0; ROOM];
         let count = door(request, &mut own);
         match reply.get_mut(..count) {
             Some(place) => place.copy_from_slice(&own[..count]),

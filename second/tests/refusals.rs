@@ -1,7 +1,11 @@
 //! Each refusal on both sides of its condition, the places, and the order.
 
+use second::edition::TODAY;
 use second::line::Asked;
 use second::{Answer, Form, Refusal, Shape};
+
+/// The largest N.
+const MOST: u32 = TODAY.most_path_degree as u32;
 
 /// A request of this form and these degrees, its counts right and its rooms
 /// exact: all travels 5, all points at (…, 1024).
@@ -64,11 +68,11 @@ fn kind() {
 fn degree_of_forms_1_and_3() {
     for form in [Form::Curve, Form::Triangle] {
         for first in 0..=7 {
-            for n in 0..=6 {
+            for n in 0..=9 {
                 for second in 0..=2 {
                     let mut asked = plain(form, first, second, n);
                     asked.rooms = Some((64, 64));
-                    let legal = first <= 4 && n <= 3 && second == 0;
+                    let legal = first <= 4 && n <= MOST && second == 0;
                     assert_eq!(told(&asked), (if legal { 0 } else { 2 }, 0));
                 }
             }
@@ -80,10 +84,10 @@ fn degree_of_forms_1_and_3() {
 fn degree_of_form_2() {
     for first in 0..=6 {
         for second in 0..=6 {
-            for n in 0..=5 {
+            for n in 0..=8 {
                 let mut asked = plain(Form::Tensor, first, second, n);
                 asked.rooms = Some((64, 64));
-                let legal = first + second <= 4 && n <= 3;
+                let legal = first + second <= 4 && n <= MOST;
                 assert_eq!(told(&asked), (if legal { 0 } else { 2 }, 0));
             }
         }

@@ -2,7 +2,7 @@
 //! replay beside others.
 
 use second::beside_replay::{replays, replays_agree};
-use second::door::door;
+use second::door::{door, ROOM};
 use second::replay::{lines, replay, Five};
 use second::sample::traces::{Recorder, Traces};
 use std::collections::BTreeMap;
@@ -24,7 +24,7 @@ fn record(length: u8) -> Vec<u8> {
 
 /// The reply to a request.
 fn told(request: &[u8]) -> Vec<u8> {
-    let mut reply = [0; 34];
+    let mut reply = [0; ROOM];
     let count = door(request, &mut reply);
     reply[..count].to_vec()
 }

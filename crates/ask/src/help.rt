@@ -36,7 +36,7 @@ fn say_request() {
     io::write_all(STDOUT_FILENO, b"\n");
     io::write_all(
         STDOUT_FILENO,
-        b"A request line is whole numbers with blanks, spaces or tabs, between them:\n",
+        b"A request line is whole numbers with blanks between them: spaces, tabs, carriage returns.\n",
     );
     io::write_all(
         STDOUT_FILENO,
@@ -56,13 +56,12 @@ fn say_request() {
     );
     io::write_all(
         STDOUT_FILENO,
-        b"  age                   if wanted, of the tilt sample in milliseconds, 0 to 65535\n",
+        b"  age=251               if wanted, the tilt sample's age in milliseconds, 0 to 65535\n",
     );
     io::write_all(
         STDOUT_FILENO,
-        b"One word at the end is the age, two are the rooms, three the rooms and then the age.\n",
+        b"The age is the last word. An age that is not given counts as 0.\n",
     );
-    io::write_all(STDOUT_FILENO, b"An age that is not given counts as 0.\n");
     io::write_all(
         STDOUT_FILENO,
         b"A number is digits, with - before them below 0. A line is at most 4096 bytes long.\n",
@@ -99,9 +98,12 @@ fn say_answer() {
     );
     io::write_all(
         STDOUT_FILENO,
-        b"answered by `unreadable`, and FILE:LINE: what is wrong with it goes to standard\n",
+        b"answered by `unreadable`, and what is wrong goes to standard error, with the word\n",
     );
-    io::write_all(STDOUT_FILENO, b"error.\n");
+    io::write_all(
+        STDOUT_FILENO,
+        b"and where it stands:   rides.txt:3:12: \"10x\" is not a whole number\n",
+    );
     io::write_all(STDOUT_FILENO, b"\n");
     io::write_all(
         STDOUT_FILENO,

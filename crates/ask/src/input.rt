@@ -1,155 +1,99 @@
-// The input: files or standard input, read in parts, the lines of which are answered as they end.
-ghost use Prim.Native.Nat.{_+_, _≤_, _<_};
+// The input, file after file: parts are read, and what `answers` has written to a line is written out.
+ghost use Prim.Native.Nat.{_≤_};
 ghost use lib.ListN.{length};
-ghost use Rattle.ask.specs.Fits.{Ready, Onward};
-use crate::answer::write_answer;
 use crate::help;
-use libc::STDIN_FILENO;
+use answers::Lines;
+use answers::Taken;
+use files::Input;
+use libc::STDERR_FILENO;
 use libc::STDOUT_FILENO;
 
-// Where the reading of an input stands: how many bytes of the line are kept, and the line's number.
-pub struct Lines {
-    pub kept: usize,
-    pub row: u64,
-}
-
-// The same within a part, with the next byte and how much of the output buffer is filled.
-pub struct Work {
-    pub at: usize,
-    pub kept: usize,
-    pub row: u64,
-    pub filled: usize,
-}
-
 // Whether there may be more to read.
-pub struct Turn {
-    pub go: bool,
-    pub lines: Lines,
+struct Turn {
+    go: bool,
+    lines: Lines,
 }
 
-fn flush(out: &[u8], filled: usize)
-    requires { ⌜ filled ≤ length (now out) ⌝ }
+// The answer to a line goes to standard output, and what is told of it, after the input's name, to standard error.
+fn write(name: &[u8], out: &[u8], err: &[u8], taken: Taken)
+    requires { ⌜ (taken .answer ≤ length (now out)) × (taken .complaint ≤ length (now err)) ⌝ }
 {
-    if !io::write_all(STDOUT_FILENO, &out[..filled]) {
-        os::fail(b"standard output");
+    let n = taken.answer;
+    let m = taken.complaint;
+    if m > 0 {
+        io::write_all(STDERR_FILENO, name);
+        io::write_all(STDERR_FILENO, &err[..m]);
+    }
+    if n > 0 {
+        if !io::write_all(STDOUT_FILENO, &out[..n]) {
+            os::fail(b"standard output");
+        }
     }
 }
 
-// Makes room for one more answer.
-fn with_room(out: &[u8], filled: usize) -> usize
-    requires { ⌜ (filled ≤ length (now out)) × (4096 ≤ length (now out)) ⌝ }
-    ensures { λ r. ⌜ r + 4096 ≤ length (now (out .entry)) ⌝ }
-{
-    if filled <= out.len() - 4096 {
-        return filled;
+fn take_part(
+    part: &[u8],
+    name: &[u8],
+    line: &mut [u8],
+    out: &mut [u8],
+    err: &mut [u8],
+    lines: Lines,
+) -> Lines {
+    let mut now = lines;
+    let mut at = 0;
+    while at < part.len() {
+        let taken = answers::take(part, at, now, line, out, err);
+        write(name, out, err, taken);
+        let next = taken.lines;
+        now = next;
+        at = taken.at;
     }
-    flush(out, filled);
-    0
+    now
 }
 
-fn next_row(row: u64) -> u64 {
-    if row < u64::MAX { row + 1 } else { row }
-}
-
-// The part up to its next newline, which ends a line.
-fn take_piece(part: &[u8], name: &[u8], line: &mut [u8], out: &mut [u8], work: Work) -> Work
-    requires { ⌜ (Ready (now part) (now line) (now out) work) × (work .at < length (now part)) ⌝ }
-    ensures { λ r. ⌜ Onward (now (part .entry)) (now (line .entry)) (now (out .entry)) work r ⌝ }
-{
-    let piece = text::split(part, work.at, line, work.kept);
-    let kept = piece.count;
-    if !piece.ended {
-        return Work {
-            at: piece.at,
-            kept,
-            row: work.row,
-            filled: work.filled,
-        };
-    }
-    let from = with_room(out, work.filled);
-    let end = write_answer(&line[..kept], name, work.row, out, from);
-    Work {
-        at: piece.at,
-        kept: 0,
-        row: next_row(work.row),
-        filled: end,
-    }
-}
-
-// A part: the lines that end in it are answered, and what is left is kept.
-fn take_part(part: &[u8], name: &[u8], line: &mut [u8], out: &mut [u8], lines: Lines) -> Lines
-    requires { ⌜ (0 < length (now line)) × (lines .kept ≤ length (now line)) × (4096 ≤ length (now out)) ⌝ }
-    ensures { λ r. ⌜ r .kept ≤ length (now (line .entry)) ⌝ }
-{
-    let mut work = Work {
-        at: 0,
-        kept: lines.kept,
-        row: lines.row,
-        filled: 0,
-    };
-    while work.at < part.len() {
-        let next = take_piece(part, name, line, out, work);
-        work = next;
-    }
-    flush(out, work.filled);
-    Lines {
-        kept: work.kept,
-        row: work.row,
-    }
-}
-
-// Reads once, and answers what came.
+// Reads once. A line that the failed input has begun is not answered.
 fn take_some(
     fd: i32,
     name: &[u8],
     part: &mut [u8],
     line: &mut [u8],
     out: &mut [u8],
+    err: &mut [u8],
     lines: Lines,
-) -> Turn
-    requires { ⌜ (0 < length (now line)) × (lines .kept ≤ length (now line)) × (4096 ≤ length (now out)) ⌝ }
-    ensures { λ r. ⌜ r .lines .kept ≤ length (now (line .entry)) ⌝ }
-{
-    let got = libc::read(fd, part);
-    if got < 0 {
+) -> Turn {
+    let got = files::read(fd, part);
+    if got.failed {
         os::fail(name);
         return Turn {
             go: false,
             lines: Lines { kept: 0, row: 1 },
         };
     }
-    if got == 0 {
+    let n = got.count;
+    if n == 0 {
         return Turn { go: false, lines };
     }
-    let n = io::count(got, part);
-    let next = take_part(&part[..n], name, line, out, lines);
+    let next = take_part(&part[..n], name, line, out, err, lines);
     Turn {
         go: true,
         lines: next,
     }
 }
 
-// The last line, where it has no newline.
-fn take_last(name: &[u8], line: &[u8], out: &mut [u8], lines: Lines)
-    requires { ⌜ (lines .kept ≤ length (now line)) × (4096 ≤ length (now out)) ⌝ }
-{
-    let kept = lines.kept;
-    if kept == 0 {
-        return;
-    }
-    let end = write_answer(&line[..kept], name, lines.row, out, 0);
-    flush(out, end);
-}
-
-// A whole input. A proved loop has to end, and nothing says that an input does, so it counts its turns down from a
-// number that no run uses up.
-fn take_all(fd: i32, name: &[u8], part: &mut [u8], line: &mut [u8], out: &mut [u8])
-    requires { ⌜ (0 < length (now line)) × (4096 ≤ length (now out)) ⌝ }
-{
+// A whole input, whose last line may have no newline. A proved loop has to end, and nothing says that an input does, so it
+// counts its turns down from a number that no run uses up.
+fn take_all(
+    fd: i32,
+    name: &[u8],
+    part: &mut [u8],
+    line: &mut [u8],
+    out: &mut [u8],
+    err: &mut [u8],
+) {
     let mut lines = Lines { kept: 0, row: 1 };
     let mut turns = u64::MAX;
     while turns > 0 {
-        let turn = take_some(fd, name, part, line, out, lines);
+        let turn = take_some(fd, name, part, line, out, err, lines);
         let next = turn.lines;
         lines = next;
         if turn.go {
@@ -158,35 +102,27 @@ fn take_all(fd: i32, name: &[u8], part: &mut [u8], line: &mut [u8], out: &mut [u
             turns = 0;
         }
     }
-    take_last(name, line, out, lines);
+    take_part(b"\n", name, line, out, err, lines);
 }
 
-// The file that argument i names.
-fn take_file(i: usize, part: &mut [u8], line: &mut [u8], out: &mut [u8])
-    requires { ⌜ (0 < length (now line)) × (4096 ≤ length (now out)) ⌝ }
-{
-    let mut path = io::buffer();
-    let n = os::arg(i, &mut path);
-    if os::errno() != 0 {
-        os::fail(b"argument");
+// The file that argument i names, or standard input where that is 0.
+fn take_file(i: usize, part: &mut [u8], line: &mut [u8], out: &mut [u8], err: &mut [u8]) {
+    let mut name = io::buffer();
+    let input = files::open(i, &mut name);
+    let n = input.size;
+    if input.fd < 0 {
+        os::fail(&name[..n]);
         return;
     }
-    let fd = os::open_read(&path[..n]);
-    if fd < 0 {
-        os::fail(&path[..n]);
-        return;
-    }
-    take_all(fd, &path[..n], part, line, out);
-    libc::close(fd);
+    take_all(input.fd, &name[..n], part, line, out, err);
+    files::close(input);
 }
 
 // Each argument's file, one after the other.
-fn take_files(count: usize, part: &mut [u8], line: &mut [u8], out: &mut [u8])
-    requires { ⌜ (0 < length (now line)) × (4096 ≤ length (now out)) ⌝ }
-{
+fn take_files(count: usize, part: &mut [u8], line: &mut [u8], out: &mut [u8], err: &mut [u8]) {
     let mut i = 1;
     while i < count {
-        take_file(i, part, line, out);
+        take_file(i, part, line, out, err);
         i += 1;
     }
 }
@@ -195,15 +131,16 @@ fn take_files(count: usize, part: &mut [u8], line: &mut [u8], out: &mut [u8])
 pub fn run() {
     let mut part = io::large_buffer();
     let mut line = [0u8; 4097];
-    let mut out = io::large_buffer();
+    let mut out = [0u8; 8192];
+    let mut err = [0u8; 8192];
     let count = os::arg_count();
     if 1 < count {
         if help::is_asked() {
             help::print();
             return;
         }
-        take_files(count, &mut part, &mut line, &mut out);
+        take_files(count, &mut part, &mut line, &mut out, &mut err);
         return;
     }
-    take_all(STDIN_FILENO, b"-", &mut part, &mut line, &mut out);
+    take_file(0, &mut part, &mut line, &mut out, &mut err);
 }

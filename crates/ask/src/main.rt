@@ -1,6 +1,5 @@
 // Answers request lines: it reads the files that its arguments name, or standard input where there are none, and writes
 // an answer line for each request line. What is wrong with a line goes to standard error.
-mod answer;
 mod help;
 mod input;
 

@@ -12,10 +12,10 @@ use Rattle.request.specs.Request.{Request}
 use Rattle.request.specs.Refusal.{answer, notBalance, balancePlace, uneven, isNumber}
 use Rattle.request.proofs.Forms.{at-triangle}
 use Rattle.request.proofs.Least.{least-before}
+use Rattle.request.proofs.Accepted.{accepts}
 use Rattle.net.specs.Net.{numberAt, pathNumber}
 use Rattle.net.specs.Reading.{coordinate, scale}
 use Rattle.net.proofs.Moment.{place-balanced}
-use Rattle.compose.proofs.Acceptance.{accepts}
 
 is-number : (z : ℤ) (n : ℕ) → not (isNumber z n) ≡ false → z ≡ pos n
 unfolding isNumber

@@ -11,11 +11,11 @@ use Rattle.request.specs.declared.Answer.{Answer}
 use Rattle.request.specs.Head.{degree, longest}
 use Rattle.request.specs.Request.{Request}
 use Rattle.request.specs.Refusal.{answer, accepted}
+use Rattle.request.proofs.Accepted.{accepts}
 use Rattle.net.specs.Composed.{point}
 use Rattle.net.specs.Reading.{drawn, surfaceRead}
 use Rattle.net.proofs.Moment.{moment, drawn-is}
 use Rattle.compose.specs.Afterwards.{pointsAfter}
-use Rattle.compose.proofs.Acceptance.{accepts}
 use Rattle.compose.proofs.Written.{afterwards-at}
 
 points-at : (rq : Request) (age : ℕ) (exact points : List ℤ) → answer rq age (length exact) (length points) .number ≡ 0

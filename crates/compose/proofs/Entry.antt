@@ -1,29 +1,26 @@
 -- What the entry does with an answer: a refusal leaves both arrays, an acceptance writes the numerators and the rounded
 -- points. Assumes nothing.
-use mathlib.Core.Path.{_≡_, refl, sym, ap, _∙_}
+use mathlib.Core.Path.{_≡_, sym, ap, _∙_}
 use mathlib.Core.List.{List}
 use Prim.Native.Nat.{ℕ, zero, suc, _+_, _*_, _-_, _^_, _≤_, _<_}
 use native.Mathlib.Nat.{mul-le-mul}
 use native.Mathlib.Omega.{arith}
-use lib.IntN.{ℤ, pos, natAbs}
+use lib.IntN.{ℤ, pos}
 use lib.Dec.{lit≤}
 use lib.ListN.{length, getD}
 use borrow.Author.Tests.{ltb-false}
-use Rattle.whole.specs.Round.{nearest}
-use Rattle.whole.specs.Choose.{choose}
 use Rattle.request.specs.declared.Answer.{Answer}
 use Rattle.request.specs.Head.{degree, longest}
 use Rattle.request.specs.Request.{Request}
 use Rattle.request.specs.Refusal.{answer, accepted, valuePlace, parameterPlace, balancePlace, notValue, notParameter, notBalance, notRoom}
 use Rattle.request.proofs.Forms.{small, degree-most, at-triangle, or-none}
 use Rattle.request.proofs.Bounds.{parameter-most, value-most, balance-most}
+use Rattle.request.proofs.Accepted.{Accepted, accepts, refusal-empty}
 use Rattle.net.specs.Composed.{numerator, denominator, point}
-use Rattle.net.specs.Gathered.{GoodPath}
 use Rattle.net.specs.Loaded.{Composable, Numerators}
 use Rattle.net.proofs.Bounds.{point-size}
 use Rattle.compose.specs.Afterwards.{afterwards, exactAfter, pointsAfter}
 use Rattle.compose.specs.Contract.{Composed, roundedAt, AllRoundable}
-use Rattle.compose.proofs.Acceptance.{Accepted, accepts, refused-none}
 use Rattle.compose.proofs.Written.{afterwards-none, afterwards-same}
 
 scale-most : (r : ℕ) → r ≤ 4 → 1024 ^ r ≤ 1024 ^ 4
@@ -39,7 +36,7 @@ pub refused-result : (rq : Request) (age : ℕ) (exact points : List ℤ) (a : A
     → Composed rq age exact points a exact points
 unfolding exactAfter pointsAfter
 refused-result rq age exact points a e some =
-    let none : answer rq age (length exact) (length points) .count ≡ 0 = refused-none rq age (length exact) (length points) (rw e at some) in
+    let none : answer rq age (length exact) (length points) .count ≡ 0 = refusal-empty rq age (length exact) (length points) (rw e at some) in
     record { answered = e; exact-is = rw none (sym (afterwards-none _ exact)); points-is = rw none (sym (afterwards-none _ points)) }
 
 -- what acceptance leaves of a request

@@ -1,5 +1,4 @@
--- Laws of the composer's answer and of its two output arrays, and demand 3 of any result that they allow. Assumes nothing.
-pub mod Acceptance
+-- Laws of the composer's two output arrays, and demand 3 of any result that they allow. Assumes nothing.
 pub mod Written
 pub mod Entry
 pub mod Demand3

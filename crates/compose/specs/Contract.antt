@@ -12,11 +12,6 @@ use Rattle.request.specs.Request.{Request}
 use Rattle.request.specs.Refusal.{answer}
 use Rattle.compose.specs.Afterwards.{exactAfter, pointsAfter}
 
--- the request that the entry's form, degrees, N, surface and path are
-unfoldable pub requestOf : ℕ → ℕ → ℕ → ℕ → List ℤ → List ℤ → Request
-requestOf form first second N surface path =
-    record { head = record { form = form; first = first; second = second; N = N }; surface = surface; path = path }
-
 -- age is that of the tilt sample; exact and points are the arrays as they were lent
 pub record Composed (rq : Request) (age : ℕ) (exact points : List ℤ) (a : Answer) (exact′ points′ : List ℤ) : Type 0 where
   pub answered : a ≡ answer rq age (length exact) (length points)

@@ -2,10 +2,10 @@
 // one has its exact numerators and its rounded points written to the two lent arrays.
 ghost use mathlib.Core.Path.{_≡_};
 ghost use Prim.Native.Nat.{_+_, _*_, _-_, _^_, _≤_, _<_};
-ghost use lib.IntN.{pos, natAbs};
+ghost use lib.IntN.{pos};
 ghost use lib.ListN.{length, getD, set};
 ghost use Rattle.compose.specs.Afterwards.{afterwards};
-ghost use Rattle.compose.specs.Contract.{requestOf, Composed, roundedAt, Roundable, AllRoundable};
+ghost use Rattle.compose.specs.Contract.{Composed, roundedAt, Roundable, AllRoundable};
 use request::Answer;
 use request::Head;
 use units::Age;
@@ -93,24 +93,15 @@ fn write_points(from: &[i64; 13], scale: u64, count: usize, points: &mut [i32])
 // where the request is accepted, and then the first L+1 places of both arrays are written; else the refusal's number and
 // place and count 0, and both arrays are as they were.
 pub fn compose(
-    form: u32,
-    first: u32,
-    second: u32,
-    N: u32,
+    head: Head,
     age: Age,
     surface: &[i32],
     path: &[i32],
     exact: &mut [i64],
     points: &mut [i32],
 ) -> Answer
-    ensures { λ a. ⌜ Composed (requestOf form first second N (now (surface .entry)) (now (path .entry))) (age .0) (now (exact .entry)) (now (points .entry)) a (now (exact .exit)) (now (points .exit)) ⌝ }
+    ensures { λ a. ⌜ Composed (record { head = head; surface = now (surface .entry); path = now (path .entry) }) (age .0) (now (exact .entry)) (now (points .entry)) a (now (exact .exit)) (now (points .exit)) ⌝ }
 {
-    let head = Head {
-        form,
-        first,
-        second,
-        N,
-    };
     let answer = request::judge(head, age, surface, path, exact.len(), points.len());
     if answer.number != 0 {
         return answer;

@@ -1,13 +1,12 @@
 -- The three demands on the lean curve, each of every result that the composer's contract allows, determinacy, and that port
 -- and starboard mirror. What the contract allows is in Rattle.compose.specs.Contract, the documents' words are in the
 -- definitions that are cited here. Assumes nothing.
-use mathlib.Core.Path.{_≡_, refl, sym, ap, _∙_}
-use mathlib.Core.Bool.{cond}
+use mathlib.Core.Path.{_≡_, sym, ap, _∙_}
 use mathlib.Core.List.{List}
+use mathlib.Core.Option.{none, some}
 use Prim.Native.Nat.{ℕ, _+_, _*_, _^_, _≤_, _<_}
 use native.Mathlib.Omega.{arith}
 use lib.IntN.{ℤ, pos, negℤ, natAbs, _-ℤ_, _*ℤ_}
-use lib.Dec.{eqb}
 use lib.ListN.{length, getD}
 use Rattle.whole.specs.Round.{nearest}
 use Rattle.whole.specs.Choose.{choose}
@@ -15,16 +14,15 @@ use Rattle.whole.proofs.Determined.{Determined}
 use Rattle.request.specs.declared.Answer.{Answer}
 use Rattle.request.specs.Head.{degree, longest}
 use Rattle.request.specs.Request.{Request}
-use Rattle.request.specs.Refusal.{answer, accepted}
-use Rattle.request.specs.Order.{tests, first, numbers, placeFor}
-use Rattle.request.proofs.Ordered.{ordered}
+use Rattle.request.specs.Cascade.{Test, first, refused, decided}
+use Rattle.request.specs.Refusal.{refusals, answer, accepted}
+use Rattle.request.proofs.Accepted.{accepts}
 use Rattle.net.specs.Composed.{numerator, denominator, point}
 use Rattle.net.specs.Reading.{drawn, surfaceRead}
 use Rattle.net.specs.Mirror.{mirrored}
 use Rattle.net.proofs.Mirror.{answer-mirrored, numerator-mirrored, point-mirrored}
 use Rattle.compose.specs.Afterwards.{exactAfter, pointsAfter, afterwards}
 use Rattle.compose.specs.Contract.{Composed}
-use Rattle.compose.proofs.Acceptance.{accepts, refused-none}
 use Rattle.compose.proofs.Written.{afterwards-none, afterwards-at, afterwards-past}
 use Rattle.compose.proofs.Demand3.{demand3 as at-every-moment}
 
@@ -45,16 +43,23 @@ determined rq age exact points = record {
   only = λ r c. λ t. record { answer = c .answered t; exact = c .exact-is t; points = c .points-is t };
 }
 
--- Demand 1. The composition ends (that is the checker's own promise of every function). The number is that of the first
--- of the nine tests that holds, in the stated order, or 0; the place is the least bad index or point; a refusal's count
--- is 0 and it leaves both arrays as they were. (`first-exact` of Rattle.request.proofs.Ordered: a number exactly where
--- its test holds and none before it does.)
+-- The other public functions below the composer answer one value, r ≡ that of a definition: such a contract leaves no choice.
+pub equation : {A : Type 0} (value : A) → Determined (λ r. r ≡ value)
+equation value = record { value = value; only = λ r e. e }
+
+-- `judge` is one of them: the answer alone, of the same table.
+pub judge-determined : (rq : Request) (age exactRoom pointsRoom : ℕ) → Determined (λ a. a ≡ answer rq age exactRoom pointsRoom)
+judge-determined rq age exactRoom pointsRoom = equation (answer rq age exactRoom pointsRoom)
+
+-- Demand 1. The composition ends (that is the checker's own promise of every function). Where a test is the first of the
+-- table of nine that holds, the answer is its number, its place and count 0, and both arrays are as they were; where none
+-- holds, it is 0, 0 and L+1. (The table is `refusals` of Rattle.request.specs.Refusal; `first-exact` of
+-- Rattle.request.proofs.Cascade: a test is the first exactly where it holds and none before it in the table does.)
 pub record Demand1 (rq : Request) (age : ℕ) (exact points : List ℤ) (r : Result) : Type 0 where
-  pub number : r .answer .number ≡ getD numbers (first (tests rq age (length exact) (length points))) 0
-  pub place : r .answer .place ≡ placeFor rq (r .answer .number)
-  pub count : r .answer .count ≡ cond (eqb (r .answer .number) 0) (longest (rq .head) + 1) 0
-  pub exact-kept : (r .answer .number ≡ 0 → ⊥) → r .exact ≡ exact
-  pub points-kept : (r .answer .number ≡ 0 → ⊥) → r .points ≡ points
+  pub refusal : (t : Test) → first (refusals rq age (length exact) (length points)) ≡ some t
+      → (r .answer ≡ record { number = t .number; place = t .place; count = 0 }) × (r .exact ≡ exact) × (r .points ≡ points)
+  pub acceptance : first (refusals rq age (length exact) (length points)) ≡ none
+      → r .answer ≡ record { number = 0; place = 0; count = longest (rq .head) + 1 }
 
 -- Demand 2. Where a request is accepted, each exact numerator at R = 0 to L is the whole number of the blossom sum
 -- (document 000, equation 8; document 004, Corollary 1), each rounded point is that over binomial(L, R)·1024^r, rounded, and
@@ -86,10 +91,6 @@ module _ (rq : Request) (age : ℕ) (exact points : List ℤ) (r : Result) (allo
   abbrev count : ℕ
   count = answer rq age (length exact) (length points) .count
 
-  -- a refusal writes nothing
-  nothing : (f : ℕ → ℤ) (l : List ℤ) → (answer rq age (length exact) (length points) .number ≡ 0 → ⊥) → afterwards count f l ≡ l
-  nothing f l refusal = rw (refused-none rq age (length exact) (length points) refusal) (afterwards-none f l)
-
   -- an acceptance writes L + 1 places
   all : r .answer .number ≡ 0 → count ≡ longest (rq .head) + 1
   unfolding accepted
@@ -102,17 +103,15 @@ module _ (rq : Request) (age : ℕ) (exact points : List ℤ) (r : Result) (allo
   rest f l e R m = let c = all e in afterwards-past count f l R (pos 0) (omega arith)
 
   pub demand1 : Demand1 rq age exact points r
-  unfolding exactAfter pointsAfter
-  demand1 =
-      let a = allowed .answered in
-      let o = ordered rq age (length exact) (length points) in
-      record {
-        number = rw a (o .number);
-        place = rw a (o .place);
-        count = rw a (o .count);
-        exact-kept = λ refusal. allowed .exact-is ∙ nothing (numerator rq) exact (rw a at refusal);
-        points-kept = λ refusal. allowed .points-is ∙ nothing (point rq) points (rw a at refusal);
-      }
+  unfolding answer decided refused accepted exactAfter pointsAfter
+  demand1 = record {
+    refusal = λ t e. (
+      allowed .answered ∙ rw e,
+      allowed .exact-is ∙ rw e (afterwards-none (numerator rq) exact),
+      allowed .points-is ∙ rw e (afterwards-none (point rq) points),
+    );
+    acceptance = λ e. allowed .answered ∙ rw e;
+  }
 
   pub demand2 : Demand2 rq exact points r
   unfolding exactAfter pointsAfter point denominator

@@ -1,2 +1,2 @@
-// The page for the yard's reviewer: what the composer promises, each demand as one statement. It stands in specs/, and has
-// no code of its own.
+// The pages for the yard's reviewer: what the composer and the door promise, each demand as one statement. They stand in
+// specs/, and have no code of their own.

@@ -11,7 +11,7 @@ use Rattle.request.specs.Head.{surfaceCount, pathCount}
 use Rattle.request.specs.Request.{Request}
 use Rattle.request.specs.Refusal.{answer}
 use Rattle.compose.specs.Afterwards.{listBelow, afterwards, pointsAfter}
-use Rattle.compose.specs.Contract.{requestOf, Composed}
+use Rattle.compose.specs.Contract.{Composed}
 use Rattle.compose.proofs.Written.{below-length}
 use Rattle.wire.specs.Words.{numberAt}
 use Rattle.door.specs.Record.{headIn, startIn, ageIn, pathStart, requestIn}
@@ -26,8 +26,8 @@ first-places count f lent = take-at (listBelow count f) _ count (below-length co
 -- the composer is given the request of the record
 pub request-read : (request : List ℕ) (from : ℕ) (head : Head) (s p : ℕ) (surface path surface′ path′ : List ℤ) → from ≡ startIn request → head ≡ headIn request → s ≡ surfaceCount head
     → p ≡ pathCount head → surface′ ≡ afterwards s (numberAt request from) surface → path′ ≡ afterwards p (numberAt request (from + 2 * s)) path
-    → requestOf (head .form) (head .first) (head .second) (head .N) (take s surface′) (take p path′) ≡ requestIn request
-unfolding requestOf requestIn pathStart
+    → record { head = head; surface = take s surface′; path = take p path′ } ≡ requestIn request
+unfolding requestIn pathStart
 request-read request from head s p surface path surface′ path′ b h es ep f g = rw (f, g, first-places s _ surface, first-places p _ path, es, ep, b, h)
 
 -- what it answers and leaves in the points is what the door answers and sends

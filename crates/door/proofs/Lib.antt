@@ -1,4 +1,4 @@
--- Laws of the door's numbers and records, and the theorems about its replies. Assumes nothing.
+-- Laws of the door's numbers and records, and what is answered at the door fits a reply. Assumes nothing.
 pub mod Over
 pub mod Sizes
 pub mod Composing
@@ -6,6 +6,3 @@ pub mod Order
 pub mod Replies
 pub mod Sending
 pub mod Room
-pub mod Promises
-pub mod Asked
-pub mod Mirrored

@@ -1,6 +1,6 @@
 -- What is answered at the door fits a reply: number, place and count a byte each, and each point two bytes. Assumes nothing.
 use mathlib.Core.Path.{_≡_, ap}
-use mathlib.Core.Bool.{Bool, true, false, cond}
+use mathlib.Core.Bool.{false}
 use mathlib.Core.List.{List, [], append-nil}
 use Prim.Native.Nat.{ℕ, _≤_, _<_}
 use native.Mathlib.Nat.{mul-le-mul}
@@ -8,18 +8,19 @@ use native.Mathlib.Decide.{ℕ-discrete}
 use native.Mathlib.Omega.{arith}
 use lib.IntN.{ℤ, pos, negsuc, natAbs}
 use lib.ListN.{length, getD, take}
-use Rattle.units.specs.Bounds.{stale}
 use Rattle.request.specs.declared.Answer.{Answer}
 use Rattle.request.specs.declared.Head.{Head}
 use Rattle.request.specs.Head.{longest, surfaceCount, pathCount}
 use Rattle.request.specs.Request.{Request}
-use Rattle.request.specs.Refusal.{notKind, notDegree, notSurface, notPath, notRoom, notValue, notParameter, notBalance, valuePlace, parameterPlace, balancePlace, refused, accepted, answer, answerNumbers}
+use Rattle.request.specs.Cascade.{refused}
+use Rattle.request.specs.Refusal.{notDegree, accepted, refusals, answer}
 use Rattle.request.proofs.Forms.{small, degree-most}
 use Rattle.request.proofs.Bounds.{value-most, parameter-most, balance-most}
+use Rattle.request.proofs.Cascade.{Each, decided-is}
+use Rattle.request.proofs.Accepted.{accepts, refusal-empty}
 use Rattle.net.specs.Composed.{point}
 use Rattle.net.proofs.Bounds.{point-size}
 use Rattle.compose.proofs.Written.{below-at, below-length}
-use Rattle.compose.proofs.Acceptance.{accepts, refused-none}
 use Rattle.compose.proofs.Entry.{composable}
 use Rattle.wire.specs.Words.{Short}
 use Rattle.door.specs.Record.{headIn, ageIn, requestIn}
@@ -39,28 +40,41 @@ refusal-fits : (number place : ℕ) → number < 256 → place < 256 → InBytes
 unfolding refused
 refusal-fits number place m n = record { number-fits = m; place-fits = n; few = omega arith }
 
-either : (test : Bool) (number place : ℕ) (next : Answer) → number < 256 → place < 256 → InBytes next → InBytes (cond test (refused number place) next)
-either true number place next m n f = refusal-fits number place m n
-either false number place next m n f = f
-
 module _ (rq : Request) (d : notDegree (rq .head) ≡ false) (s : length (rq .surface) ≤ 15) (p : length (rq .path) ≤ 12) where
   accepted-fits : InBytes (accepted (rq .head))
   unfolding accepted
   accepted-fits = record { number-fits = omega arith; place-fits = omega arith; few = omega (arith, longest-most (rq .head) d) }
 
   composer-fits : (age e q : ℕ) → InBytes (answer rq age e q)
-  unfolding answer answerNumbers
+  unfolding answer refusals Each
   composer-fits age e q =
-      either (notKind (rq .head)) 1 0 _ (omega arith) (omega arith)
-      (either (notDegree (rq .head)) 2 0 _ (omega arith) (omega arith)
-      (either (stale age) 10 0 _ (omega arith) (omega arith)
-      (either (notSurface rq) 3 0 _ (omega arith) (omega arith)
-      (either (notPath rq) 4 0 _ (omega arith) (omega arith)
-      (either (notRoom (rq .head) e q) 5 0 _ (omega arith) (omega arith)
-      (either (notValue rq) 6 (valuePlace (rq .surface)) _ (omega arith) (omega (arith, value-most (rq .surface)))
-      (either (notParameter rq) 7 (parameterPlace (rq .path)) _ (omega arith) (omega (arith, parameter-most (rq .path)))
-      (either (notBalance rq) 8 (balancePlace (rq .path) (rq .head .N)) _ (omega arith) (omega (arith, balance-most (rq .path) (rq .head .N), small (rq .head) d .N-most))
-      accepted-fits))))))))
+      let at-0 : (number : ℕ) → number < 256 → InBytes (refused number 0) = λ number m. refusal-fits number 0 m (omega arith) in
+      decided-is InBytes (refusals rq age e q) (accepted (rq .head)) (
+        at-0 1 (omega arith),
+        (
+          at-0 2 (omega arith),
+          (
+            at-0 10 (omega arith),
+            (
+              at-0 3 (omega arith),
+              (
+                at-0 4 (omega arith),
+                (
+                  at-0 5 (omega arith),
+                  (
+                    refusal-fits 6 _ (omega arith) (omega (arith, value-most (rq .surface))),
+                    (
+                      refusal-fits 7 _ (omega arith) (omega (arith, parameter-most (rq .path))),
+                      (refusal-fits 8 _ (omega arith) (omega (arith, balance-most (rq .path) (rq .head .N), small (rq .head) d .N-most)), tt),
+                    ),
+                  ),
+                ),
+              ),
+            ),
+          ),
+        ),
+      )
+      (λ n. accepted-fits)
 
 -- as many numbers as the head asks for
 pub surface-read : (request : List ℕ) → length (requestIn request .surface) ≡ surfaceCount (headIn request)
@@ -91,7 +105,7 @@ composer-point rq age e q R m = go (ℕ-discrete (answer rq age e q .number) 0)
   where
     go : Dec (answer rq age e q .number ≡ 0) → natAbs (point rq R) ≤ 4096
     go (yes z) = let f = accepts rq age e q z in point-size rq (composable rq age e q f) R (omega (arith, ap (λ (a : Answer). a .count) (f .answered)))
-    go (no n) = absurd (omega (arith, refused-none rq age e q n))
+    go (no n) = absurd (omega (arith, refusal-empty rq age e q n))
 
 -- no point is above the greatest travel
 pub point-most : (request : List ℕ) (R : ℕ) → R < judged request .count → natAbs (point (requestIn request) R) ≤ 4096

@@ -1,5 +1,5 @@
--- Records worked through the definitions: document 01's P1 and P2 as bytes, an age at its bound, and each way to be refused
--- at the door.
+-- Records worked through the definitions: document 01's P1 and P2 as bytes, the two rides of our own that pin every order of
+-- numbers (reckoned as in demands/specs/Rides.antt), an age at its bound, and each way to be refused at the door.
 -- Assumes nothing.
 use mathlib.Core.Path.{_≡_, refl}
 use mathlib.Core.List.{List, [], _∷_, map}
@@ -9,7 +9,8 @@ use Rattle.whole.specs.Choose.{choose}
 use Rattle.whole.specs.Round.{nearest, onSideOf, halfUp}
 use Rattle.units.specs.Bounds.{beyondTravel, beyondPath, stale}
 use Rattle.request.specs.Head.{byForm, degree, longest, surfaceCount, pathCount, numbers}
-use Rattle.request.specs.Refusal.{answer, answerNumbers, refused, accepted, least, notKind, notDegree, notSurface, notPath, notRoom, notValue, notParameter, notBalance, valuePlace, parameterPlace, balancePlace, uneven, isNumber}
+use Rattle.request.specs.Cascade.{first, refused, decided}
+use Rattle.request.specs.Refusal.{refusals, answer, accepted, least, notKind, notDegree, notSurface, notPath, notRoom, notValue, notParameter, notBalance, valuePlace, parameterPlace, balancePlace, uneven, isNumber}
 use Rattle.net.specs.Net.{rowStart, placeOf, netOf, numberAt as pathNumberAt, pathNumber}
 use Rattle.net.specs.Blossom.{step, blossom}
 use Rattle.net.specs.Composed.{overChoices, total, weight, arguments, numerator, denominator, point}
@@ -17,7 +18,7 @@ use Rattle.compose.specs.Afterwards.{listBelow}
 use Rattle.wire.specs.Words.{wordBytes, wordAt, unsigned, signed, numberBytes, numberAt}
 use Rattle.wire.specs.Start.{lengthField, kindField, recordStart, recordOf}
 use Rattle.door.specs.Record.{headIn, isAged, startIn, ageIn, pathStart, bodyEnd, requestIn, answerBytes, replyRecord}
-use Rattle.door.specs.Judgement.{notOfKind, notFrame, notBody, tests, inOrder, judged}
+use Rattle.door.specs.Judgement.{notOfKind, notFrame, notBody, doorRefusals, judged}
 use Rattle.door.specs.Contract.{pointsOf, replyOf}
 
 pub record Exchange : Type 0 where
@@ -39,6 +40,20 @@ exchanges =
     ∷ record {
       request = 18 ∷ 0 ∷ 1 ∷ 0 ∷ 1 ∷ 2 ∷ 0 ∷ 1 ∷ 2 ∷ 0 ∷ 3 ∷ 0 ∷ 0xfe ∷ 0xff ∷ 0 ∷ 0 ∷ 0 ∷ 4 ∷ [];
       reply = 14 ∷ 0 ∷ 0x01 ∷ 0x80 ∷ 0 ∷ 0 ∷ 3 ∷ 0 ∷ 2 ∷ 0 ∷ 3 ∷ 0 ∷ 0xfe ∷ 0xff ∷ [];
+    }
+    -- our own ride of form 2, degrees (1, 2): F 3, −40, 700, 11, 2000, −5; path (128, 896), (1000, 300)
+    ∷ record {
+      request =
+          28 ∷ 0 ∷ 1 ∷ 0 ∷ 2 ∷ 1 ∷ 2 ∷ 1 ∷ 3 ∷ 0 ∷ 216 ∷ 255 ∷ 188 ∷ 2 ∷ 11 ∷ 0 ∷ 208 ∷ 7 ∷ 251 ∷ 255
+          ∷ 128 ∷ 0 ∷ 128 ∷ 3 ∷ 232 ∷ 3 ∷ 44 ∷ 1 ∷ [];
+      reply = 16 ∷ 0 ∷ 0x01 ∷ 0x80 ∷ 0 ∷ 0 ∷ 4 ∷ 0 ∷ 4 ∷ 2 ∷ 88 ∷ 1 ∷ 135 ∷ 3 ∷ 47 ∷ 3 ∷ [];
+    }
+    -- and of form 3, degree 2, aged 250: F 5, −60, 300, 17, 2000, −9; path (700, 200, 124), (50, 374, 600), (300, 24, 700)
+    ∷ record {
+      request =
+          40 ∷ 0 ∷ 2 ∷ 0 ∷ 3 ∷ 2 ∷ 0 ∷ 2 ∷ 250 ∷ 0 ∷ 5 ∷ 0 ∷ 196 ∷ 255 ∷ 44 ∷ 1 ∷ 17 ∷ 0 ∷ 208 ∷ 7 ∷ 247 ∷ 255
+          ∷ 188 ∷ 2 ∷ 200 ∷ 0 ∷ 124 ∷ 0 ∷ 50 ∷ 0 ∷ 118 ∷ 1 ∷ 88 ∷ 2 ∷ 44 ∷ 1 ∷ 24 ∷ 0 ∷ 188 ∷ 2 ∷ [];
+      reply = 18 ∷ 0 ∷ 0x01 ∷ 0x80 ∷ 0 ∷ 0 ∷ 5 ∷ 0 ∷ 29 ∷ 2 ∷ 25 ∷ 2 ∷ 108 ∷ 0 ∷ 208 ∷ 0 ∷ 34 ∷ 0 ∷ [];
     }
     -- FRAME: seven bytes
     ∷ record { request = 7 ∷ 0 ∷ 1 ∷ 0 ∷ 9 ∷ 9 ∷ 9 ∷ []; reply = refusalBytes 9 0 }
@@ -75,5 +90,5 @@ exchanges =
     ∷ []
 
 pub as-stated : map (λ (e : Exchange). replyOf (e .request)) exchanges ≡ map (λ (e : Exchange). e .reply) exchanges
-unfolding refusalBytes exchanges wordBytes wordAt unsigned signed numberBytes numberAt lengthField kindField recordStart recordOf headIn isAged startIn ageIn pathStart bodyEnd requestIn answerBytes replyRecord notOfKind notFrame notBody tests inOrder judged pointsOf replyOf listBelow answer answerNumbers refused accepted least notKind notDegree notSurface notPath notRoom notValue notParameter notBalance valuePlace parameterPlace balancePlace beyondTravel beyondPath stale uneven isNumber byForm degree longest surfaceCount pathCount numbers rowStart placeOf netOf pathNumberAt pathNumber step blossom overChoices total weight arguments numerator denominator point nearest onSideOf halfUp sumTo sumOver choose
+unfolding refusalBytes exchanges wordBytes wordAt unsigned signed numberBytes numberAt lengthField kindField recordStart recordOf headIn isAged startIn ageIn pathStart bodyEnd requestIn answerBytes replyRecord notOfKind notFrame notBody doorRefusals judged pointsOf replyOf listBelow answer refusals first decided refused accepted least notKind notDegree notSurface notPath notRoom notValue notParameter notBalance valuePlace parameterPlace balancePlace beyondTravel beyondPath stale uneven isNumber byForm degree longest surfaceCount pathCount numbers rowStart placeOf netOf pathNumberAt pathNumber step blossom overChoices total weight arguments numerator denominator point nearest onSideOf halfUp sumTo sumOver choose
 as-stated = refl

@@ -7,7 +7,8 @@ use lib.Dec.{ltb, eqb}
 use lib.ListN.{length}
 use Rattle.units.specs.Bounds.{stale}
 use Rattle.request.specs.declared.Answer.{Answer}
-use Rattle.request.specs.Refusal.{refused, notKind, notDegree, answer}
+use Rattle.request.specs.Cascade.{Test, test, first, decided}
+use Rattle.request.specs.Refusal.{notKind, notDegree, answer}
 use Rattle.wire.specs.Start.{lengthField, kindField}
 use Rattle.door.specs.Record.{requestKind, start, agedStart, headIn, isAged, startIn, ageIn, bodyEnd, requestIn}
 
@@ -27,26 +28,17 @@ notFrame bytes = ltb (length bytes) start || not (eqb (lengthField bytes) (lengt
 unfoldable pub notBody : List ℕ → Bool
 notBody bytes = not (eqb (length bytes) (bodyEnd (startIn bytes) (headIn bytes)))
 
--- a test that the door makes itself, and the number that it answers where the test holds
-pub record Test : Type 0 where
-  pub holds : Bool
-  pub number : ℕ
-
--- "comes first; KIND and DEGREE follow; a body not exactly as long [..] is FRAME again"; STALE "stands right after DEGREE"
-unfoldable pub tests : List ℕ → List Test
-tests bytes =
-    record { holds = notFrame bytes; number = 9 }
-    ∷ record { holds = notKind (headIn bytes); number = 1 }
-    ∷ record { holds = notDegree (headIn bytes); number = 2 }
-    ∷ record { holds = stale (ageIn bytes); number = 10 }
-    ∷ record { holds = notBody bytes; number = 9 }
+-- the door's own table, each at "place 0": FRAME "comes first; KIND and DEGREE follow; a body not exactly as long [..] is
+-- FRAME again"; STALE "stands right after DEGREE"
+unfoldable pub doorRefusals : List ℕ → List Test
+doorRefusals bytes =
+    test 9 (notFrame bytes) 0
+    ∷ test 1 (notKind (headIn bytes)) 0
+    ∷ test 2 (notDegree (headIn bytes)) 0
+    ∷ test 10 (stale (ageIn bytes)) 0
+    ∷ test 9 (notBody bytes) 0
     ∷ []
 
--- the first of the tests that holds decides, at "place 0"; where none does, the last word decides
-unfoldable pub inOrder : List Test → Answer → Answer
-inOrder [] last = last
-inOrder (test ∷ rest) last = cond (test .holds) (refused (test .number) 0) (inOrder rest last)
-
--- what is answered to a record: by the door's tests, and then by the composer
+-- what is answered to a record: by the door's table, and then by the composer
 unfoldable pub judged : List ℕ → Answer
-judged bytes = inOrder (tests bytes) (answer (requestIn bytes) (ageIn bytes) mostPoints mostPoints)
+judged bytes = decided (first (doorRefusals bytes)) (answer (requestIn bytes) (ageIn bytes) mostPoints mostPoints)

@@ -18,7 +18,7 @@ pub record AllShort (numbers : List ℤ) : Type 0 where
   pub each : (k : ℕ) → k < length numbers → Short (getD numbers k (pos 0))
 
 -- a record whose degrees and length are right, with the byte at which its numbers begin, its head and its age
-pub record Whole (request : List ℕ) (from : ℕ) (head : Head) (age : ℕ) : Type 0 where
+pub record Readable (request : List ℕ) (from : ℕ) (head : Head) (age : ℕ) : Type 0 where
   pub from-is : from ≡ startIn request
   pub age-is : age ≡ ageIn request
   pub head-is : head ≡ headIn request

@@ -5,14 +5,14 @@ ghost use mathlib.Core.Bool.{false};
 ghost use mathlib.Core.List.{_++_};
 ghost use Prim.Native.Nat.{_+_, _*_, _/_, _%_, _≤_, _<_};
 ghost use lib.ListN.{length, set};
-ghost use Rattle.request.specs.Refusal.{notDegree, refused, answer};
+ghost use Rattle.request.specs.Refusal.{notDegree, answer};
 ghost use Rattle.compose.specs.Afterwards.{afterwards};
-ghost use Rattle.wire.specs.Words.{wordEnd, Short, wordAt, unsigned, signed, numberBytes, numberAt};
+ghost use Rattle.wire.specs.Words.{wordEnd, Short, unsigned, numberBytes, numberAt};
 ghost use Rattle.wire.specs.Start.{recordStart};
 ghost use Rattle.door.specs.Record.{start, replyKind, headIn, isAged, agedStart, startIn, ageIn, bodyEnd, requestIn, answerBytes, replyRecord};
 ghost use Rattle.door.specs.Judgement.{mostPoints, notFrame, judged};
 ghost use Rattle.door.specs.Contract.{over, room, Answered};
-ghost use Rattle.door.specs.Parts.{AllShort, Whole, Given, InBytes, Sendable};
+ghost use Rattle.door.specs.Parts.{AllShort, Readable, Given, InBytes, Sendable};
 use request::Answer;
 use request::Head;
 use units::Age;
@@ -164,7 +164,7 @@ fn body_end(from: usize, head: Head) -> usize
 
 // The composer's answer to the request in a record whose degrees and length are right.
 fn compose_in(request: &[u8], from: usize, head: Head, age: Age, points: &mut [i32]) -> Answer
-    requires { ⌜ Whole (now request) from head (age .0) × (length (now points) ≡ mostPoints) ⌝ }
+    requires { ⌜ Readable (now request) from head (age .0) × (length (now points) ≡ mostPoints) ⌝ }
     ensures { λ a. ⌜ Given (now (request .entry)) (answer (requestIn (now (request .entry))) (ageIn (now (request .entry))) mostPoints mostPoints) (now (points .entry)) a (now (points .exit)) ⌝ }
 {
     let surface_count = request::surface_count(head);
@@ -175,10 +175,7 @@ fn compose_in(request: &[u8], from: usize, head: Head, age: Age, points: &mut [i
     read_numbers(request, from, surface_count, &mut surface);
     read_numbers(request, from + 2 * surface_count, path_count, &mut path);
     compose::compose(
-        head.form,
-        head.first,
-        head.second,
-        head.N,
+        head,
         age,
         &surface[..surface_count],
         &path[..path_count],
@@ -187,20 +184,13 @@ fn compose_in(request: &[u8], from: usize, head: Head, age: Age, points: &mut [i
     )
 }
 
-// 9 FRAME, place 0.
-fn frame() -> Answer
-    ensures { λ r. ⌜ r ≡ refused 9 0 ⌝ }
-{
-    request::refusal(9, 0)
-}
-
 // The order of judgement: FRAME, KIND, DEGREE, STALE, the body's FRAME, and then the composer.
 fn judge_record(request: &[u8], points: &mut [i32]) -> Answer
     requires { ⌜ length (now points) ≡ mostPoints ⌝ }
     ensures { λ a. ⌜ Given (now (request .entry)) (judged (now (request .entry))) (now (points .entry)) a (now (points .exit)) ⌝ }
 {
     if not_frame(request) {
-        return frame();
+        return request::refusal(9, 0);
     }
     let head = head_in(request);
     if request::not_kind(head) {
@@ -210,12 +200,15 @@ fn judge_record(request: &[u8], points: &mut [i32]) -> Answer
         return request::refusal(2, 0);
     }
     let age = age_in(request);
-    if units::is_stale(age) {
+    let from = start_in(request);
+    let end = body_end(from, head);
+    let old = units::is_stale(age);
+    let other_length = request.len() != end;
+    if old {
         return request::refusal(10, 0);
     }
-    let from = start_in(request);
-    if request.len() != body_end(from, head) {
-        return frame();
+    if other_length {
+        return request::refusal(9, 0);
     }
     compose_in(request, from, head, age, points)
 }

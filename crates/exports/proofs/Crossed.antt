@@ -1,30 +1,47 @@
--- The two ways that a call ends, each by the contract: no room for the answer, or the composer's with its answer in three
--- words. Assumes nothing.
-use mathlib.Core.Path.{_≡_, refl, ap}
+-- The two ways that a call of each kind ends, by its contract: no room for its words, or what the composer and the replay
+-- themselves answer, in words. Assumes nothing.
+use mathlib.Core.Path.{_≡_}
 use mathlib.Core.List.{List}
 use Prim.Native.Nat.{ℕ, _≤_, _<_}
-use native.Mathlib.Omega.{arith}
 use lib.IntN.{ℤ}
 use lib.ListN.{length, set}
+use borrow.Author.Tests.{lt-ltb, le-ltb}
 use Rattle.request.specs.declared.Answer.{Answer}
 use Rattle.request.specs.Request.{Request}
-use Rattle.request.specs.Refusal.{answer}
 use Rattle.compose.specs.Contract.{Composed}
+use Rattle.tally.specs.declared.Five.{Five}
+use Rattle.tally.specs.Replay.{replayed}
 use Rattle.exports.specs.Exported.{withAnswer, Exported}
+use Rattle.exports.specs.Replayed.{withFive, Replayed}
 
-pub untouched : (rq : Request) (age : ℕ) (exact points : List ℤ) (words : List ℕ) → length words < 3 → Exported rq age exact points words 1 exact points words
-untouched rq age exact points words short = record {
-  room = λ enough. absurd (omega (arith, enough, short));
-  no-room = λ _. record { code-is = refl; exact-is = refl; points-is = refl; words-is = refl };
-}
+module _ (rq : Request) (age : ℕ) (exact points : List ℤ) (words : List ℕ) where
+  pub untouched : length words < 3 → Exported rq age exact points words 1 exact points words
+  untouched short =
+      let t = lt-ltb _ _ short in
+      record { code-is = rw t; exact-is = rw t; points-is = rw t; words-is = rw t }
 
-pub answered : (rq : Request) (age : ℕ) (exact points : List ℤ) (words : List ℕ) (a : Answer) (exact′ points′ : List ℤ) (number : ℕ) (one two three : List ℕ) → 3 ≤ length words → Composed rq age exact points a exact′ points′ → number ≡ a .number → one ≡ set words 0 number → two ≡ set one 1 (a .place) → three ≡ set two 2 (a .count) → Exported rq age exact points words 0 exact′ points′ three
-unfolding withAnswer
-answered rq age exact points words a exact′ points′ number one two three enough composed n first second third = record {
-  room = λ _. record {
-    code-is = refl;
-    composed = record { answered = refl; exact-is = composed .exact-is; points-is = composed .points-is };
-    words-is = rw third (rw second (rw first (rw n (ap (λ b. set (set (set words 0 (b .number)) 1 (b .place)) 2 (b .count)) (composed .answered)))));
-  };
-  no-room = λ short. absurd (omega (arith, enough, short));
-}
+  pub answered : (a : Answer) (exact′ points′ : List ℤ) (number : ℕ) (one two three : List ℕ) → 3 ≤ length words
+      → Composed rq age exact points a exact′ points′ → number ≡ a .number
+      → one ≡ set words 0 number → two ≡ set one 1 (a .place) → three ≡ set two 2 (a .count)
+      → Exported rq age exact points words 0 exact′ points′ three
+  unfolding withAnswer
+  answered a exact′ points′ number one two three enough composed n first second third =
+      let t = le-ltb _ _ enough in
+      record {
+        code-is = rw t;
+        exact-is = rw t (composed .exact-is);
+        points-is = rw t (composed .points-is);
+        words-is = rw (t, ← composed .answered, third, second, first, n);
+      }
+
+module _ (bytes words : List ℕ) where
+  pub no-room : length words < 5 → Replayed bytes words 1 words
+  no-room short = let t = lt-ltb _ _ short in record { code-is = rw t; words-is = rw t }
+
+  pub wrote : (f : Five) (one two three four five : List ℕ) → 5 ≤ length words → f ≡ replayed bytes
+      → one ≡ set words 0 (f .calls) → two ≡ set one 1 (f .same) → three ≡ set two 2 (f .differ) → four ≡ set three 3 (f .first)
+      → five ≡ set four 4 (f .rest) → Replayed bytes words 0 five
+  unfolding withFive
+  wrote f one two three four five enough is a b c d e =
+      let t = le-ltb _ _ enough in
+      record { code-is = rw t; words-is = rw (t, ← is, e, d, c, b, a) }

@@ -1,31 +1,34 @@
--- The contract of `lean_compose` fixes the code and every place of all three arrays: any two results that it allows are
--- equal. Assumes nothing.
-use mathlib.Core.Path.{_≡_, sym, _∙_}
+-- The contracts of `lean_compose` and `lean_replay` fix the code and every place of every lent array: any two results that
+-- one of them allows are equal. Assumes nothing.
 use mathlib.Core.List.{List}
-use mathlib.Core.Logic.{dite}
-use Prim.Native.Nat.{ℕ, _≤_, _<_}
-use native.Mathlib.Decide.{decLt}
-use native.Mathlib.Omega.{arith}
+use Prim.Native.Nat.{ℕ}
 use lib.IntN.{ℤ}
-use lib.ListN.{length}
+use Rattle.whole.proofs.Determined.{Determined}
 use Rattle.request.specs.Request.{Request}
 use Rattle.exports.specs.Exported.{Exported}
+use Rattle.exports.specs.Replayed.{Replayed}
 
-module _ (rq : Request) (age : ℕ) (exact points : List ℤ) (words : List ℕ) (code code₂ : ℕ) (exact′ points′ exact₂ points₂ : List ℤ) (words′ words₂ : List ℕ) (one : Exported rq age exact points words code exact′ points′ words′) (two : Exported rq age exact points words code₂ exact₂ points₂ words₂) where
-  abbrev Same : Type 0
-  Same = (code ≡ code₂) × (exact′ ≡ exact₂) × (points′ ≡ points₂) × (words′ ≡ words₂)
+-- what a call leaves: its code, both arrays and the words
+pub record Left : Type 0 where
+  pub code : ℕ
+  pub exact : List ℤ
+  pub points : List ℤ
+  pub words : List ℕ
 
-  with-room : 3 ≤ length words → Same
-  with-room enough =
-      let a = one .room enough in
-      let b = two .room enough in
-      (a .code-is ∙ sym (b .code-is), a .composed .exact-is ∙ sym (b .composed .exact-is), a .composed .points-is ∙ sym (b .composed .points-is), a .words-is ∙ sym (b .words-is))
+pub composed-determined : (rq : Request) (age : ℕ) (exact points : List ℤ) (words : List ℕ)
+    → Determined (λ (l : Left). Exported rq age exact points words (l .code) (l .exact) (l .points) (l .words))
+composed-determined rq age exact points words = record {
+  value = record { code = _; exact = _; points = _; words = _ };
+  only = λ l e t. record { code = e .code-is t; exact = e .exact-is t; points = e .points-is t; words = e .words-is t };
+}
 
-  without-room : length words < 3 → Same
-  without-room short =
-      let a = one .no-room short in
-      let b = two .no-room short in
-      (a .code-is ∙ sym (b .code-is), a .exact-is ∙ sym (b .exact-is), a .points-is ∙ sym (b .points-is), a .words-is ∙ sym (b .words-is))
+-- what a replay leaves: its code and the words
+pub record Words : Type 0 where
+  pub code : ℕ
+  pub words : List ℕ
 
-  pub determined : Same
-  determined = dite (decLt (length words) 3) without-room (λ no. with-room (omega (arith, no)))
+pub replayed-determined : (bytes words : List ℕ) → Determined (λ (l : Words). Replayed bytes words (l .code) (l .words))
+replayed-determined bytes words = record {
+  value = record { code = _; words = _ };
+  only = λ l e t. record { code = e .code-is t; words = e .words-is t };
+}

@@ -2,4 +2,3 @@
 -- Assumes nothing.
 mod Crossed
 pub mod Determined
-pub mod Replaying

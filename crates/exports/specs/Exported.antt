@@ -1,32 +1,28 @@
 -- The contract of `lean_compose`, for every input: the composer's own, with the answer in three words. Assumes nothing.
 use mathlib.Core.Path.{_≡_}
+use mathlib.Core.Bool.{cond}
 use mathlib.Core.List.{List}
-use Prim.Native.Nat.{ℕ, _≤_, _<_}
+use Prim.Native.Nat.{ℕ}
+use lib.Dec.{ltb}
 use lib.IntN.{ℤ}
 use lib.ListN.{length, set}
 use Rattle.request.specs.declared.Answer.{Answer}
 use Rattle.request.specs.Request.{Request}
 use Rattle.request.specs.Refusal.{answer}
-use Rattle.compose.specs.Contract.{Composed}
+use Rattle.compose.specs.Afterwards.{exactAfter, pointsAfter}
+
+-- the request that a call's form, degrees, N, surface and path are
+abbrev pub requestOf : ℕ → ℕ → ℕ → ℕ → List ℤ → List ℤ → Request
+requestOf form first second N surface path =
+    record { head = record { form = form; first = first; second = second; N = N }; surface = surface; path = path }
 
 -- the number, the place and the count, and every later word as it was
 unfoldable pub withAnswer : Answer → List ℕ → List ℕ
 withAnswer a words = set (set (set words 0 (a .number)) 1 (a .place)) 2 (a .count)
 
--- there is room for the answer: it is written, and both arrays are as the composer leaves them
-pub record Answered (rq : Request) (age : ℕ) (exact points : List ℤ) (words : List ℕ) (code : ℕ) (exact′ points′ : List ℤ) (words′ : List ℕ) : Type 0 where
-  pub code-is : code ≡ 0
-  pub composed : Composed rq age exact points (answer rq age (length exact) (length points)) exact′ points′
-  pub words-is : words′ ≡ withAnswer (answer rq age (length exact) (length points)) words
-
--- there is none: nothing is written
-pub record Untouched (exact points : List ℤ) (words : List ℕ) (code : ℕ) (exact′ points′ : List ℤ) (words′ : List ℕ) : Type 0 where
-  pub code-is : code ≡ 1
-  pub exact-is : exact′ ≡ exact
-  pub points-is : points′ ≡ points
-  pub words-is : words′ ≡ words
-
--- exact, points and words are the arrays as they were lent
+-- exact, points and words are the arrays as they were lent; where there is no room for the answer nothing is written
 pub record Exported (rq : Request) (age : ℕ) (exact points : List ℤ) (words : List ℕ) (code : ℕ) (exact′ points′ : List ℤ) (words′ : List ℕ) : Type 0 where
-  pub room : 3 ≤ length words → Answered rq age exact points words code exact′ points′ words′
-  pub no-room : length words < 3 → Untouched exact points words code exact′ points′ words′
+  pub code-is : code ≡ cond (ltb (length words) 3) 1 0
+  pub exact-is : exact′ ≡ cond (ltb (length words) 3) exact (exactAfter rq age exact points)
+  pub points-is : points′ ≡ cond (ltb (length words) 3) points (pointsAfter rq age exact points)
+  pub words-is : words′ ≡ cond (ltb (length words) 3) words (withAnswer (answer rq age (length exact) (length points)) words)

@@ -6,8 +6,8 @@ pub mod replay;
 ghost use mathlib.Core.Path.{_≡_};
 ghost use Prim.Native.Nat.{_<_};
 ghost use lib.ListN.{length, set};
-ghost use Rattle.compose.specs.Contract.{requestOf};
-ghost use Rattle.exports.specs.Exported.{Exported};
+ghost use Rattle.exports.specs.Exported.{requestOf, Exported};
+use request::Head;
 use units::Age;
 
 fn wide(x: u32) -> u64
@@ -45,10 +45,12 @@ pub extern "C" fn lean_compose(
         return 1;
     }
     let answer = compose::compose(
-        form,
-        first,
-        second,
-        N,
+        Head {
+            form,
+            first,
+            second,
+            N,
+        },
         Age(age),
         surface,
         path,

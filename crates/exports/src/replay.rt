@@ -1,7 +1,5 @@
 // The replay of a whole trace for C and Rust, its five numbers in a lent array of words.
 ghost use Prim.Native.Nat.{_<_};
-ghost use mathlib.Core.Path.{_≡_};
-ghost use lib.ListN.{length, set};
 ghost use Rattle.exports.specs.Replayed.{Replayed};
 use crate::put;
 
@@ -14,7 +12,7 @@ pub extern "C" fn lean_replay(bytes: &[u8], words: &mut [u64]) -> u32
     if words.len() < 5 {
         return 1;
     }
-    let five = trace::replay(bytes);
+    let five = tally::replay(bytes);
     put(words, 0, five.calls);
     put(words, 1, five.same);
     put(words, 2, five.differ);

@@ -16,7 +16,7 @@ use Rattle.whole.proofs.Rounding.{nearest-neg}
 use Rattle.units.specs.Bounds.{beyondTravel, most}
 use Rattle.request.specs.Head.{degree}
 use Rattle.request.specs.Request.{Request}
-use Rattle.request.specs.Refusal.{least, valuePlace, answer, answerNumbers, notSurface, notPath, notValue, notParameter, notBalance}
+use Rattle.request.specs.Refusal.{least, valuePlace, refusals, answer, notSurface, notPath, notValue, notParameter, notBalance}
 use Rattle.net.specs.Net.{Net, placeOf, netOf, pathNumber}
 use Rattle.net.specs.Blossom.{Argument, blossom}
 use Rattle.net.specs.Composed.{overChoices, total, weight, arguments, numerator, denominator, point}
@@ -37,7 +37,7 @@ value-mirrored surface =
     ∙ (λ t. least (length surface) (λ k. (ap beyondTravel (List·getD-map negℤ surface k (pos 0)) ∙ beyond-neg (getD surface k (pos 0))) t))
 
 pub answer-mirrored : (rq : Request) (age exactRoom pointsRoom : ℕ) → answer (mirrored rq) age exactRoom pointsRoom ≡ answer rq age exactRoom pointsRoom
-unfolding mirrored answer answerNumbers notSurface notPath notValue notParameter notBalance
+unfolding mirrored refusals answer notSurface notPath notValue notParameter notBalance
 answer-mirrored rq age exactRoom pointsRoom = rw (length-map (rq .surface) negℤ, value-mirrored (rq .surface))
 
 -- ---- the numerators: −1 times a net has −1 times its blossom

@@ -5,6 +5,7 @@ pub mod Blossom
 pub mod Composed
 pub mod Reading
 pub mod Mirror
+pub mod Examples
 pub mod Layout
 pub mod Lowered
 pub mod Gathered

@@ -2,7 +2,7 @@
 // five numbers, or one pair in words. What goes wrong is said on standard error, and then no number is written.
 mod asked;
 mod find;
-mod night;
+mod morning;
 mod show;
 mod text;
 
@@ -25,5 +25,5 @@ fn main() {
         find::run(wish.file, wanted);
         return;
     }
-    night::run(wish.file, wish.progress);
+    morning::run(wish.file, wish.progress);
 }

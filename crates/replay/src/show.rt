@@ -1,6 +1,5 @@
 // A pair as a person reads it: the request's form, degrees, age, control values and path, and the recorded reply
 // beside today's.
-use crate::text::byte_at;
 use crate::text::first_difference;
 use crate::text::hex;
 use crate::text::number;
@@ -8,14 +7,17 @@ use crate::text::numbers;
 use crate::text::pad;
 use crate::text::put;
 use crate::text::signed;
-use crate::text::word_at;
 use libc::STDOUT_FILENO;
 use request::Head;
+use wire::byte_at;
+use wire::number_at;
+use wire::word_at;
 ghost use mathlib.Core.Path.{_≡_};
 ghost use mathlib.Core.Bool.{false};
 ghost use Prim.Native.Nat.{_≤_, _<_};
 ghost use lib.ListN.{length};
 ghost use Rattle.request.specs.Refusal.{notDegree};
+ghost use Rattle.replay.specs.Show.{pointsIn};
 
 // Where a record's numbers begin, and where they do behind an age.
 const START: usize = 8;
@@ -141,7 +143,7 @@ const TODAY: usize = 39;
 
 // How many points a reply has: none where it is a refusal, or not as long as its count says.
 fn points(reply: &[u8]) -> usize
-    ensures { λ r. ⌜ r < 256 ⌝ }
+    ensures { λ r. ⌜ (r ≡ pointsIn (now (reply .entry))) × (r < 256) ⌝ }
 {
     if word_at(reply, 2) != 0x8001 {
         return 0;
@@ -203,7 +205,7 @@ fn put_cell(reply: &[u8], row: usize) -> usize
     if points(reply) <= k {
         return words(b"-");
     }
-    signed(word_at(reply, START + 2 * k))
+    signed(number_at(reply, START + 2 * k))
 }
 
 fn put_name(row: usize) -> usize

@@ -1,7 +1,10 @@
 // Words and numbers on the standard descriptors.
 use libc::STDERR_FILENO;
 use libc::STDOUT_FILENO;
+ghost use mathlib.Core.Path.{_≡_};
 ghost use Prim.Native.Nat.{_+_, _*_, _≤_, _<_};
+ghost use Rattle.replay.specs.Show.{firstDifference};
+use whole::Num;
 
 // A message on standard error.
 pub fn say(words: &[u8]) {
@@ -48,34 +51,14 @@ fn wide(x: u8) -> u64
     x as u64
 }
 
-// Byte k, or 0 where there is none.
-pub fn byte_at(bytes: &[u8], k: usize) -> u64
-    ensures { λ r. ⌜ r < 256 ⌝ }
+// A signed number; how many places it takes.
+pub fn signed(n: Num) -> usize
+    ensures { λ r. ⌜ r ≤ 20 ⌝ }
 {
-    if k < bytes.len() {
-        return wide(bytes[k]);
-    }
-    0
-}
-
-// The unsigned number at byte k.
-pub fn word_at(bytes: &[u8], k: usize) -> u64
-    requires { ⌜ k < 1000000 ⌝ }
-    ensures { λ r. ⌜ r < 65536 ⌝ }
-{
-    byte_at(bytes, k) + 256 * byte_at(bytes, k + 1)
-}
-
-// The signed number that two bytes stand for; how many places it takes.
-pub fn signed(word: u64) -> usize
-    requires { ⌜ word < 65536 ⌝ }
-    ensures { λ r. ⌜ r ≤ 21 ⌝ }
-{
-    if word < 32768 {
-        return number(word);
-    }
-    put(b"-");
-    1 + number(65536 - word)
+    let mut text = [0u8; 20];
+    let k = spell::write_number(n, &mut text, 0);
+    put(&text[..k]);
+    k
 }
 
 // `count` numbers of two bytes that begin at byte `from`.
@@ -85,7 +68,7 @@ pub fn numbers(bytes: &[u8], from: usize, count: usize)
     let mut i = 0;
     while i < count {
         put(b" ");
-        signed(word_at(bytes, from + 2 * i));
+        signed(wire::number_at(bytes, from + 2 * i));
         i += 1;
     }
 }
@@ -133,7 +116,9 @@ pub fn hex(bytes: &[u8], mark: usize) {
 }
 
 // The first byte at which two records differ, or where the shorter ends.
-pub fn first_difference(a: &[u8], b: &[u8]) -> usize {
+pub fn first_difference(a: &[u8], b: &[u8]) -> usize
+    ensures { λ r. ⌜ r ≡ firstDifference (now (a .entry)) (now (b .entry)) ⌝ }
+{
     let mut i = 0;
     while i < a.len() {
         if b.len() <= i {

@@ -1,16 +1,16 @@
--- What PARAMETER and BALANCE leave of a path: each number is a natural number, at most one. Assumes nothing.
+-- What PARAMETER and BALANCE leave of a path: each number is a natural number, at most 1024. Assumes nothing.
 use mathlib.Core.Path.{_≡_, sym, ap, subst}
 use mathlib.Core.List.{List}
-use mathlib.Core.Bool.{Bool, true, false, not}
+use mathlib.Core.Bool.{false, not}
 use Prim.Native.Nat.{ℕ, _+_, _*_, _≤_, _<_}
 use native.Mathlib.Decide.{decLt}
 use native.Mathlib.Omega.{arith}
 use lib.IntN.{ℤ, pos, natAbs, _+ℤ_}
 use lib.Dec.{eqb}
 use lib.ListN.{length, getD, List·getD-eq-default}
-use Rattle.units.specs.Bounds.{beyondTravel, beyondPath, one, most}
+use Rattle.units.specs.Bounds.{beyondTravel, beyondPath, pathOne, most}
 use Rattle.units.proofs.Within.{IsPath, path-within, zero-within, travel-within}
-use Rattle.request.specs.Refusal.{least, valuePlace, parameterPlace, balancePlace, uneven, isNumber}
+use Rattle.request.specs.Refusal.{valuePlace, parameterPlace, balancePlace, uneven, isNumber}
 use Rattle.request.proofs.Least.{least-before, least-le}
 
 -- whatever holds of 0 and of each number of a list holds of what is read anywhere
@@ -37,11 +37,11 @@ travels surface e =
 
 -- the sizes of a point's numbers add up as the numbers do
 pub uneven-is : (path : List ℤ) (c : ℕ) → parameterPlace path ≡ length path
-    → uneven path c ≡ not (eqb (natAbs (getD path (3 * c) (pos 0)) + natAbs (getD path (3 * c + 1) (pos 0)) + natAbs (getD path (3 * c + 2) (pos 0))) one)
+    → uneven path c ≡ not (eqb (natAbs (getD path (3 * c) (pos 0)) + natAbs (getD path (3 * c + 1) (pos 0)) + natAbs (getD path (3 * c + 2) (pos 0))) pathOne)
 unfolding uneven isNumber
 uneven-is path c e = ap not (sums _ _ _ (path-numbers path e (3 * c)) (path-numbers path e (3 * c + 1)) (path-numbers path e (3 * c + 2)))
   where
-    sums : (x y z : ℤ) → IsPath x → IsPath y → IsPath z → isNumber (x +ℤ y +ℤ z) one ≡ eqb (natAbs x + natAbs y + natAbs z) one
+    sums : (x y z : ℤ) → IsPath x → IsPath y → IsPath z → isNumber (x +ℤ y +ℤ z) pathOne ≡ eqb (natAbs x + natAbs y + natAbs z) pathOne
     sums x y z p q r = rw (p .size, q .size, r .size)
 
 -- where no point is uneven, each of them is even

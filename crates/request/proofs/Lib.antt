@@ -2,5 +2,5 @@
 pub mod Forms
 pub mod Least
 pub mod Bounds
-pub mod Verdict
-pub mod Ordered
+pub mod Cascade
+pub mod Accepted

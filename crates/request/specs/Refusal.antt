@@ -1,17 +1,17 @@
--- "The eight refusals, tested in this order", and ticket 3's ninth, each test by itself, and the answer: a number, a place
--- and a count.
--- Degrees are whole numbers here, so no sum wraps, however large. Assumes nothing.
+-- "The eight refusals, tested in this order", and ticket 3's ninth: each test by itself, then all of them as one table, and
+-- the answer. Degrees are whole numbers here, so no sum wraps, however large. Assumes nothing.
 use mathlib.Core.Bool.{Bool, false, not, cond, _||_}
-use mathlib.Core.List.{List}
+use mathlib.Core.List.{List, [], _∷_}
 use Prim.Native.Nat.{ℕ, zero, suc, _+_, _*_}
 use lib.IntN.{ℤ, pos, negsuc, _+ℤ_}
 use lib.Dec.{ltb, eqb}
 use lib.ListN.{length, getD}
-use Rattle.units.specs.Bounds.{beyondTravel, beyondPath, stale, one}
+use Rattle.units.specs.Bounds.{beyondTravel, beyondPath, stale, pathOne}
 use Rattle.request.specs.declared.Answer.{Answer}
 use Rattle.request.specs.declared.Head.{Head}
 use Rattle.request.specs.Head.{byForm, degree, longest, surfaceCount, pathCount}
 use Rattle.request.specs.Request.{Request}
+use Rattle.request.specs.Cascade.{Test, test, first, decided}
 
 -- the least k below n of which `bad` is true, or n where there is none
 unfoldable pub least : ℕ → (ℕ → Bool) → ℕ
@@ -60,7 +60,7 @@ isNumber (negsuc m) n = false
 
 -- "x+y+z of a point is not 1,024", of path point c
 unfoldable pub uneven : List ℤ → ℕ → Bool
-uneven path c = not (isNumber (getD path (3 * c) (pos 0) +ℤ getD path (3 * c + 1) (pos 0) +ℤ getD path (3 * c + 2) (pos 0)) one)
+uneven path c = not (isNumber (getD path (3 * c) (pos 0) +ℤ getD path (3 * c + 1) (pos 0) +ℤ getD path (3 * c + 2) (pos 0)) pathOne)
 
 -- the place of 8 BALANCE: "the least point number" among the N+1 points of one whose "x+y+z is not 1,024", or N+1
 unfoldable pub balancePlace : List ℤ → ℕ → ℕ
@@ -70,30 +70,25 @@ balancePlace path N = least (N + 1) (uneven path)
 unfoldable pub notBalance : Request → Bool
 notBalance rq = byForm (rq .head) false false (ltb (balancePlace (rq .path) (rq .head .N)) (rq .head .N + 1))
 
--- "Refused: the number, a place, count 0."
-unfoldable pub refused : ℕ → ℕ → Answer
-refused number place = record { number = number; place = place; count = 0 }
-
 -- "Accepted: 0, 0, L+1."
 unfoldable pub accepted : Head → Answer
 accepted h = record { number = 0; place = 0; count = longest h + 1 }
 
--- the last three, on the numbers themselves
-unfoldable pub answerNumbers : Request → Answer
-answerNumbers rq =
-    cond (notValue rq) (refused 6 (valuePlace (rq .surface)))
-    (cond (notParameter rq) (refused 7 (parameterPlace (rq .path)))
-    (cond (notBalance rq) (refused 8 (balancePlace (rq .path) (rq .head .N)))
-    (accepted (rq .head))))
+-- the table, for the age of the tilt sample and the two rooms: "For 6 and 7 the place is the least index in its input array;
+-- for 8 it is the least point number; otherwise 0." 10 STALE "stands right after DEGREE" (02, ticket 3)
+unfoldable pub refusals : Request → ℕ → ℕ → ℕ → List Test
+refusals rq age exactRoom pointsRoom =
+    test 1 (notKind (rq .head)) 0
+    ∷ test 2 (notDegree (rq .head)) 0
+    ∷ test 10 (stale age) 0
+    ∷ test 3 (notSurface rq) 0
+    ∷ test 4 (notPath rq) 0
+    ∷ test 5 (notRoom (rq .head) exactRoom pointsRoom) 0
+    ∷ test 6 (notValue rq) (valuePlace (rq .surface))
+    ∷ test 7 (notParameter rq) (parameterPlace (rq .path))
+    ∷ test 8 (notBalance rq) (balancePlace (rq .path) (rq .head .N))
+    ∷ []
 
--- the refusals in their order, with their numbers and places, for the age of the tilt sample and the two rooms; 10 STALE
--- "stands right after DEGREE" (02, ticket 3)
+-- "The answer is a number, a place and a count."
 unfoldable pub answer : Request → ℕ → ℕ → ℕ → Answer
-answer rq age exactRoom pointsRoom =
-    cond (notKind (rq .head)) (refused 1 0)
-    (cond (notDegree (rq .head)) (refused 2 0)
-    (cond (stale age) (refused 10 0)
-    (cond (notSurface rq) (refused 3 0)
-    (cond (notPath rq) (refused 4 0)
-    (cond (notRoom (rq .head) exactRoom pointsRoom) (refused 5 0)
-    (answerNumbers rq))))))
+answer rq age exactRoom pointsRoom = decided (first (refusals rq age exactRoom pointsRoom)) (accepted (rq .head))

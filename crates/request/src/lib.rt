@@ -1,11 +1,12 @@
-// Document 01's request and the nine refusals, ticket 3's with them, tested in the stated order: `judge` answers a number, a place and a count for
-// every request and writes nothing.
+// Document 01's request and the nine refusals, ticket 3's with them, tested in the stated order: `judge` answers a number, a
+// place and a count for every request and writes nothing.
 ghost use mathlib.Core.Path.{_≡_};
 ghost use mathlib.Core.Bool.{false};
 ghost use Prim.Native.Nat.{_+_, _<_};
 ghost use lib.ListN.{length};
 ghost use Rattle.request.specs.Head.{degree, longest, surfaceCount, pathCount};
-ghost use Rattle.request.specs.Refusal.{answer, answerNumbers, refused, uneven, notKind, notDegree, valuePlace, parameterPlace, balancePlace};
+ghost use Rattle.request.specs.Cascade.{refused};
+ghost use Rattle.request.specs.Refusal.{answer, uneven, notKind, notDegree, valuePlace, parameterPlace, balancePlace};
 use units::Age;
 
 // What a request is besides its two arrays: the form, a first and a second degree, and the path's degree N.
@@ -180,33 +181,6 @@ fn acceptance(count: usize) -> Answer
     }
 }
 
-// The last three refusals, VALUE, PARAMETER and BALANCE, of a request that the first six let pass.
-fn judge_numbers(head: Head, surface: &[i32], path: &[i32], count: usize) -> Answer
-    requires { ⌜ (notDegree head ≡ false) × (count ≡ longest head + 1) ⌝ }
-    ensures { λ r. ⌜ r ≡ answerNumbers (record { head = head; surface = now (surface .entry); path = now (path .entry) }) ⌝ }
-{
-    let value = value_place(surface);
-    if value < surface.len() {
-        return refusal(6, value);
-    }
-    let parameter = parameter_place(path);
-    if parameter < path.len() {
-        return refusal(7, parameter);
-    }
-    if head.form == 1 {
-        return acceptance(count);
-    }
-    if head.form == 2 {
-        return acceptance(count);
-    }
-    let n = head.N as usize;
-    let balance = balance_place(path, n);
-    if balance < n + 1 {
-        return refusal(8, balance);
-    }
-    acceptance(count)
-}
-
 // The nine refusals in their order, each exactly on its condition, or the acceptance: document 01's answer to a request
 // whose output arrays have the two rooms.
 pub fn judge(
@@ -225,21 +199,40 @@ pub fn judge(
     if not_degree(head) {
         return refusal(2, 0);
     }
-    if units::is_stale(age) {
+    let old = units::is_stale(age);
+    let values = surface_count(head);
+    let numbers = path_count(head);
+    let count = place_count(head);
+    if old {
         return refusal(10, 0);
     }
-    if surface.len() != surface_count(head) {
+    if surface.len() != values {
         return refusal(3, 0);
     }
-    if path.len() != path_count(head) {
+    if path.len() != numbers {
         return refusal(4, 0);
     }
-    let count = place_count(head);
     if exact_room < count {
         return refusal(5, 0);
     }
     if points_room < count {
         return refusal(5, 0);
     }
-    judge_numbers(head, surface, path, count)
+    let value = value_place(surface);
+    if value < surface.len() {
+        return refusal(6, value);
+    }
+    let parameter = parameter_place(path);
+    if parameter < path.len() {
+        return refusal(7, parameter);
+    }
+    if head.form != 3 {
+        return acceptance(count);
+    }
+    let n = head.N as usize;
+    let balance = balance_place(path, n);
+    if balance < n + 1 {
+        return refusal(8, balance);
+    }
+    acceptance(count)
 }

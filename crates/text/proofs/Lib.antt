@@ -1,9 +1,7 @@
--- Laws of the text's definitions, for the proofs here and above. Assumes nothing.
+-- Laws for the proofs of the readers. Assumes nothing.
 pub mod Runs
-pub mod Wholes
-pub mod Steps
-pub mod Asks
-pub mod Spelling
-pub mod Writing
+pub mod Cases
 pub mod Keeping
+pub mod Back
+pub mod Determined
 pub mod Examples

@@ -1,12 +1,13 @@
--- How a line of any length is kept in a room of its own: what is too long keeps its front, and whether all of it is
--- blank. Assumes nothing.
+-- How a line of any length is kept in a room of its own, and cut out of the parts of an input: what is too long keeps its
+-- front, and whether all of it is blank. Assumes nothing.
 use mathlib.Core.Path.{_≡_}
-use mathlib.Core.Bool.{cond}
+use mathlib.Core.Bool.{Bool, true, false, not, cond}
 use mathlib.Core.List.{List, [], _∷_, _++_}
-use Prim.Native.Nat.{ℕ, _+_, _-_, _≤_, _<_}
-use lib.Dec.{ltb}
+use Prim.Native.Nat.{ℕ, suc, _+_, _-_, _≤_}
+use lib.Dec.{ltb, eqb}
 use lib.ListN.{length, getD, take, drop, set}
-use Rattle.text.specs.Words.{isBlank, isText, run}
+use Rattle.spell.specs.Decimal.{Front}
+use Rattle.text.specs.Words.{isBlank}
 use Rattle.text.specs.declared.lines.Piece.{Piece}
 
 -- a byte more: behind the others where there is room, else in place of a blank at the end
@@ -14,19 +15,25 @@ unfoldable pub keptByte : ℕ → List ℕ → ℕ → List ℕ
 keptByte room l b =
     cond (ltb (length l) room) (l ++ b ∷ []) (cond (isBlank (getD l (room - 1) 0)) (set l (room - 1) b) l)
 
-unfoldable pub kept : ℕ → List ℕ → List ℕ → List ℕ
-kept room l [] = l
-kept room l (b ∷ s) = kept room (keptByte room l b) s
+-- no newline
+unfoldable pub isText : ℕ → Bool
+isText b = not (eqb b 10)
 
--- bytes were kept behind those in an array
-pub record Keeps (bytes : List ℕ) (before : List ℕ) (count : ℕ) (now : List ℕ) (r : ℕ) : Type 0 where
-  pub is : take r now ≡ kept (length before) (take count before) bytes
-  pub inside : r ≤ length before
+-- what is kept after a part's bytes up to its next newline, how many were read, and whether there was a newline
+pub record Cut : Type 0 where
+  pub kept : List ℕ
+  pub read : ℕ
+  pub ended : Bool
 
--- a part was read up to its next newline, if it has one
-pub record Splits (part : List ℕ) (at : ℕ) (before : List ℕ) (count : ℕ) (now : List ℕ) (r : Piece) : Type 0 where
-  pub keeps : Keeps (take (run isText (drop at part)) (drop at part)) before count now (r .count)
-  pub ended : r .ended ≡ ltb (at + run isText (drop at part)) (length part)
-  pub next : r .at ≡ at + run isText (drop at part) + cond (r .ended) 1 0
-  pub inside : r .at ≤ length part
-  pub further : at < length part → at < r .at
+unfoldable pub cutAt : ℕ → List ℕ → List ℕ → Cut
+cutAt room l [] = record { kept = l; read = 0; ended = false }
+cutAt room l (b ∷ s) =
+    cond (eqb b 10) (record { kept = l; read = 1; ended = true })
+    (let c = cutAt room (keptByte room l b) s in record { kept = c .kept; read = suc (c .read); ended = c .ended })
+
+-- the part from `at` on was cut
+pub record Cuts (part : List ℕ) (at : ℕ) (before : List ℕ) (kept : ℕ) (now : List ℕ) (r : Piece) : Type 0 where
+  pub keeps : Front (cutAt (length before) (take kept before) (drop at part) .kept) before now (r .kept)
+  pub fits : r .kept ≤ length before
+  pub next : r .at ≡ at + cutAt (length before) (take kept before) (drop at part) .read
+  pub ended : r .ended ≡ cutAt (length before) (take kept before) (drop at part) .ended

@@ -1,32 +1,22 @@
--- What a line says: passed over, unreadable for a reason, or a request. Its numbers are read from left to right, and the
--- first thing that is wrong is the reason. Assumes nothing.
+-- What a line says. A cursor goes from word to word: where the word that was read last stands, and what is wrong with it, if
+-- anything; from a cursor that is refused nothing more is read, so the first thing that is wrong is the reason. Assumes
+-- nothing.
 use mathlib.Core.Bool.{Bool, true, false, cond, _||_}
-use mathlib.Core.List.{List, [], _∷_}
-use mathlib.Core.Option.{Option, none, some}
-use Prim.Native.Nat.{ℕ, zero, suc}
-use lib.Dec.{leb, ltb, eqb}
-use lib.IntN.{ℤ, pos, negsuc, natAbs}
-use lib.ListN.{length, getD}
-use Rattle.text.specs.Words.{isBlank, every, word, after, whole}
-use Rattle.text.specs.declared.Head.{Head}
+use mathlib.Core.List.{List, [], _∷_, _++_}
+use Prim.Native.Nat.{ℕ, zero, suc, _+_}
+use lib.Dec.{ltb, eqb}
+use lib.IntN.{ℤ}
+use lib.ListN.{length, getD, drop}
+use Rattle.request.specs.declared.Head.{Head}
+use Rattle.text.specs.Words.{isBlank, every, wordAfter, between, bytesAt, isNone, signed, leftOver, tooLong, digitsWithin, numberOf, isAge}
+use Rattle.text.specs.declared.word.Place.{Place}
+use Rattle.text.specs.declared.word.Found.{Found}
+use Rattle.text.specs.declared.Cursor.{Cursor}
 use Rattle.text.specs.declared.Rooms.{Rooms}
-use Rattle.text.specs.declared.Request.{Request}
-
--- the reasons: a word that is not a number, a number out of its bounds, too few words, words left over, a line too long
-abbrev pub notNumber : ℕ
-notNumber = 1
-
-abbrev pub outside : ℕ
-outside = 2
-
-abbrev pub tooFew : ℕ
-tooFew = 3
-
-abbrev pub leftOver : ℕ
-leftOver = 4
-
-abbrev pub tooLong : ℕ
-tooLong = 5
+use Rattle.text.specs.declared.numbers.Got.{Got}
+use Rattle.text.specs.declared.numbers.Headed.{Headed}
+use Rattle.text.specs.declared.numbers.Roomed.{Roomed}
+use Rattle.text.specs.declared.numbers.Aged.{Aged}
 
 -- the greatest count or room, the greatest degree, the greatest age and the longest line
 abbrev pub most : ℕ
@@ -41,108 +31,134 @@ greatestAge = 65535
 abbrev pub longest : ℕ
 longest = 4096
 
--- the room of both arrays where a line names none: the longest answer
-abbrev pub ownRoom : ℕ
-ownRoom = 13
+-- the rooms where a line names none: the longest answer in both
+abbrev pub ownRooms : Rooms
+ownRooms = record { given = false; exact = 13; points = 13 }
 
--- what was read and the bytes left, or what is wrong
-pub data Got (A : Type 0) : Type 0 where
-  got : A → List ℕ → Got A
-  wrong : ℕ → Got A
+abbrev pub first : Cursor
+first = record { start = 0; end = 0; wrong = 0 }
 
--- reading on with what was read
-infixr 20 _then_
-abbrev pub _then_ : {A B : Type 0} → Got A → (A → List ℕ → Got B) → Got B
-got a s then f = f a s
-wrong r then f = wrong r
+-- reading on from a cursor at the next word, unless it is refused
+abbrev pub onward : {A : Type 0} → List ℕ → Cursor → A → (Place → A) → A
+onward line c refused next = cond (eqb (c .wrong) 0) (next (wordAfter line (c .end))) refused
 
--- from −below to above
-unfoldable pub within : ℕ → ℕ → ℤ → Bool
-within below above (pos n) = leb n above
-within below above (negsuc n) = leb (suc n) below
+abbrev pub at : Place → ℕ → Cursor
+at place wrong = record { start = place .start; end = place .end; wrong = wrong }
 
-unfoldable pub bounded : ℕ → ℕ → Option ℤ → List ℕ → Got ℤ
-bounded below above none rest = wrong notNumber
-bounded below above (some z) rest = cond (within below above z) (got z rest) (wrong outside)
+-- a number was found at a place
+abbrev pub taken : Place → Found → Got
+taken place f = record { cursor = at place (f .wrong); minus = f .minus; size = f .size }
 
 -- the next word as a number from −below to above
-unfoldable pub number : ℕ → ℕ → List ℕ → Got ℤ
-number below above s = cond (eqb (length (word s)) 0) (wrong tooFew) (bounded below above (whole (word s)) (after s))
+unfoldable pub number : List ℕ → Cursor → ℕ → ℕ → Got
+number line c below above =
+    onward line c (record { cursor = c; minus = false; size = 0 })
+    (λ place. taken place (numberOf (bytesAt line place) below above))
 
 -- the next word as a number from 0 to above
-unfoldable pub natural : ℕ → List ℕ → Got ℕ
-natural above s = number 0 above s then λ z rest. got (natAbs z) rest
-
--- so many values of 32 bits
-unfoldable pub values : ℕ → List ℕ → Got (List ℤ)
-values zero s = got [] s
-values (suc n) s = number 2147483648 2147483647 s then λ z rest. values n rest then λ zs end. got (z ∷ zs) end
-
--- a count and as many values
-unfoldable pub listed : List ℕ → Got (List ℤ)
-listed s = natural most s then values
-
--- two numbers from 0 to above
-unfoldable pub paired : ℕ → List ℕ → Got (ℕ × ℕ)
-paired above s = natural above s then λ a s. natural above s then λ b s. got (a, b) s
+abbrev pub natural : List ℕ → Cursor → ℕ → Got
+natural line c above = number line c 0 above
 
 -- form, first, second and N
-unfoldable pub headed : List ℕ → Got Head
-headed s =
-    paired largest s then λ a s.
-    paired largest s then λ b s. got (record { form = a .0; first = a .1; second = b .0; N = b .1 }) s
-
--- two rooms where two words or more are left, else none
-unfoldable pub roomed : List ℕ → Got Rooms
-roomed s =
-    cond (every isBlank (after s)) (got (record { given = false; exact = ownRoom; points = ownRoom }) s)
-    (paired most s then λ a s. got (record { given = true; exact = a .0; points = a .1 }) s)
-
--- an age where a word is left, else 0; and nothing behind it
-unfoldable pub aged : List ℕ → Got ℕ
-aged s =
-    cond (every isBlank s) (got 0 [])
-    (natural greatestAge s then λ age s. cond (every isBlank s) (got age []) (wrong leftOver))
-
--- the rooms and then the age
-unfoldable pub ended : List ℕ → Got (Rooms × ℕ)
-ended s = roomed s then λ rooms s. aged s then λ age s. got (rooms, age) s
-
--- what a request says: its numbers, with the counts of the two lists, and the lists
-pub record Asked : Type 0 where
-  pub request : Request
-  pub surface : List ℤ
-  pub path : List ℤ
-
-unfoldable pub together : Head → List ℤ → List ℤ → Rooms → ℕ → Asked
-together head surface path rooms age =
+unfoldable pub headed : List ℕ → Cursor → Headed
+headed line c =
+    let form = natural line c largest in
+    let first = natural line (form .cursor) largest in
+    let second = natural line (first .cursor) largest in
+    let N = natural line (second .cursor) largest in
     record {
-      request = record { head = head; surface = length surface; path = length path; rooms = rooms; age = age };
-      surface = surface;
-      path = path;
+      cursor = N .cursor;
+      head = record { form = form .size; first = first .size; second = second .size; N = N .size };
     }
 
+-- a value of 32 bits; the cursor after so many of them, and the values
+unfoldable pub value : List ℕ → Cursor → Got
+value line c = number line c 2147483648 2147483647
+
+unfoldable pub afterValues : List ℕ → Cursor → ℕ → Cursor
+afterValues line c zero = c
+afterValues line c (suc k) = value line (afterValues line c k) .cursor
+
+unfoldable pub values : List ℕ → Cursor → ℕ → List ℤ
+values line c zero = []
+values line c (suc k) = let v = value line (afterValues line c k) in values line c k ++ (signed (v .minus) (v .size) ∷ [])
+
+-- a count and as many values
+pub record Numbers : Type 0 where
+  pub cursor : Cursor
+  pub numbers : List ℤ
+
+unfoldable pub listed : List ℕ → Cursor → Numbers
+listed line c =
+    let count = natural line c most in
+    record { cursor = afterValues line (count .cursor) (count .size); numbers = values line (count .cursor) (count .size) }
+
+-- two rooms, unless no word is left or the next one is the age; one word alone is left over
+unfoldable pub roomed : List ℕ → Cursor → Roomed
+roomed line c =
+    let none : Roomed = record { cursor = c; rooms = ownRooms } in
+    onward line c none λ place.
+    cond (isNone place) none
+    (cond (isAge (bytesAt line place)) none
+    (cond (isNone (wordAfter line (place .end))) (record { cursor = at place leftOver; rooms = ownRooms })
+    (let exact = natural line c most in
+    let points = natural line (exact .cursor) most in
+    record { cursor = points .cursor; rooms = record { given = true; exact = exact .size; points = points .size } })))
+
+-- `age=` and digits, unless no word is left, and then the age is 0
+unfoldable pub aged : List ℕ → Cursor → Aged
+aged line c =
+    let none : Aged = record { cursor = c; age = 0 } in
+    onward line c none λ place.
+    cond (isNone place) none
+    (cond (isAge (bytesAt line place))
+    (let found = digitsWithin false (between line (place .start + 4) (place .end)) greatestAge in
+    record { cursor = at place (found .wrong); age = found .size })
+    (record { cursor = at place leftOver; age = 0 }))
+
+-- no word is left
+unfoldable pub ended : List ℕ → Cursor → Cursor
+ended line c = onward line c c λ place. cond (isNone place) c (at place leftOver)
+
+-- what a line says: a request, unless the cursor is refused
+pub record Said : Type 0 where
+  pub cursor : Cursor
+  pub head : Head
+  pub surface : List ℤ
+  pub path : List ℤ
+  pub rooms : Rooms
+  pub age : ℕ
+
 -- `form first second N`, a list of control values, a list of path numbers, the rooms and the age
-unfoldable pub asked : List ℕ → Got Asked
-asked s =
-    headed s then λ head s.
-    listed s then λ surface s.
-    listed s then λ path s.
-    ended s then λ e s. got (together head surface path (e .0) (e .1)) s
+unfoldable pub request : List ℕ → Said
+request line =
+    let start = headed line first in
+    let surface = listed line (start .cursor) in
+    let path = listed line (surface .cursor) in
+    let lent = roomed line (path .cursor) in
+    let last = aged line (lent .cursor) in
+    record {
+      cursor = ended line (last .cursor);
+      head = start .head;
+      surface = surface .numbers;
+      path = path .numbers;
+      rooms = lent .rooms;
+      age = last .age;
+    }
 
--- what a line is
-pub data Meaning : Type 0 where
-  passed : Meaning
-  unreadable : ℕ → Meaning
-  asks : Asked → Meaning
+unfoldable pub tooLongSaid : Said
+tooLongSaid = record {
+  cursor = record { start = longest; end = longest; wrong = tooLong };
+  head = record { form = 0; first = 0; second = 0; N = 0 };
+  surface = [];
+  path = [];
+  rooms = ownRooms;
+  age = 0;
+}
 
-unfoldable pub judged : Got Asked → Meaning
-judged (got a rest) = asks a
-judged (wrong r) = unreadable r
+unfoldable pub said : List ℕ → Said
+said line = cond (ltb longest (length line)) tooLongSaid (request line)
 
--- a line of blanks alone, or one that begins with `#`, however long
+-- a line of blanks alone, or one that begins with `#`, however long, is passed over
 unfoldable pub isPassed : List ℕ → Bool
-isPassed s = eqb (getD s 0 0) 35 || every isBlank s
-
-unfoldable pub meaning : List ℕ → Meaning
-meaning s = cond (isPassed s) passed (cond (ltb longest (length s)) (unreadable tooLong) (judged (asked s)))
+isPassed line = eqb (getD line 0 0) 35 || every isBlank line

@@ -1,112 +1,111 @@
--- How the readers' values show what is read: kinds of byte, capped numbers, a reason and a place. Assumes nothing.
+-- What the readers promise: each value is that of its definition, and stays within its bounds. Assumes nothing.
 use mathlib.Core.Path.{_≡_}
-use mathlib.Core.Bool.{Bool, false, cond}
-use mathlib.Core.List.{List, []}
-use mathlib.Core.Option.{Option, none, some}
-use Prim.Native.Nat.{ℕ, suc, _-_, _≤_, min}
-use lib.Dec.{leb, eqb}
-use lib.IntN.{ℤ, pos, negsuc}
-use lib.ListN.{length, take, drop}
-use Rattle.text.specs.Words.{isBlank, isSolid, isDigit, isText, run, word, after, signed}
-use Rattle.text.specs.Line.{Got, got, wrong, outside, most, number, values, listed, paired, headed, roomed, aged, ended}
-use Rattle.text.specs.declared.word.Kind.{Kind}
-use Rattle.text.specs.declared.word.Kind.the-variants.{Blank, Solid, Digit, Text}
-use Rattle.text.specs.declared.word.Whole.{Whole}
-use Rattle.text.specs.declared.word.Whole.the-variants.{Nothing, Up, Down}
+use mathlib.Core.Bool.{Bool, true, false, cond}
+use mathlib.Core.List.{List}
+use Prim.Native.Nat.{ℕ, _≤_, min}
+use lib.IntN.{ℤ}
+use lib.ListN.{length}
+use lib.Seq.{sets}
+use Rattle.text.specs.Words.{isBlank, isSolid, isDigit, every, past, wordAfter, spelled, digitsWithin, numberOf}
+use Rattle.text.specs.Line.{most, longest, number, natural, headed, afterValues, values, listed, roomed, aged, ended, Said}
 use Rattle.text.specs.declared.word.Place.{Place}
+use Rattle.text.specs.declared.word.Digits.{Digits}
 use Rattle.text.specs.declared.word.Found.{Found}
-use Rattle.text.specs.declared.numbers.Values.{Values}
+use Rattle.text.specs.declared.Cursor.{Cursor}
+use Rattle.text.specs.declared.Reading.{Reading}
+use Rattle.text.specs.declared.numbers.Got.{Got}
 use Rattle.text.specs.declared.numbers.Listed.{Listed}
-use Rattle.text.specs.declared.numbers.Pair.{Pair}
 use Rattle.text.specs.declared.numbers.Headed.{Headed}
 use Rattle.text.specs.declared.numbers.Roomed.{Roomed}
 use Rattle.text.specs.declared.numbers.Aged.{Aged}
-use Rattle.text.specs.declared.numbers.Ended.{Ended}
 
-abbrev pub isKind : Kind → ℕ → Bool
-isKind Blank = isBlank
-isKind Solid = isSolid
-isKind Digit = isDigit
-isKind Text = isText
+abbrev pub isOf : Bool → ℕ → Bool
+isOf true = isBlank
+isOf false = isSolid
 
-pub record Ran (p : ℕ → Bool) (s : List ℕ) (r : ℕ) : Type 0 where
-  pub is : r ≡ run p s
-  pub inside : r ≤ length s
+pub record Skips (p : ℕ → Bool) (line : List ℕ) (at r : ℕ) : Type 0 where
+  pub is : r ≡ past p line at
+  pub onward : at ≤ r
+  pub inside : r ≤ length line
 
--- the next word stands at a place
-pub record Stands (s : List ℕ) (r : Place) : Type 0 where
+pub record Stands (line : List ℕ) (at : ℕ) (r : Place) : Type 0 where
+  pub is : r ≡ wordAfter line at
   pub order : r .start ≤ r .end
-  pub inside : r .end ≤ length s
-  pub word-is : take (r .end - r .start) (drop (r .start) s) ≡ word s
-  pub after-is : drop (r .end) s ≡ after s
+  pub inside : r .end ≤ length line
 
 -- beyond every bound that is asked for
 abbrev pub cap : ℕ
 cap = 4294967296
 
--- the number of a word, a size beyond the cap as the cap
-abbrev pub capped : Option ℤ → Whole
-capped none = Nothing
-capped (some (pos n)) = Up (min n cap)
-capped (some (negsuc n)) = Down (min (suc n) cap)
+unfoldable pub spells : List ℕ → Digits
+spells s = cond (every isDigit s) (record { all = true; size = min (spelled 0 s) cap }) (record { all = false; size = 0 })
 
--- reason 0: what was read and the bytes left
-unfoldable pub outcome : {A : Type 0} → ℕ → A → List ℕ → Got A
-outcome reason a rest = cond (eqb reason 0) (got a rest) (wrong reason)
+pub record ReadsDigits (minus : Bool) (ds : List ℕ) (bound : ℕ) (r : Found) : Type 0 where
+  pub is : r ≡ digitsWithin minus ds bound
+  pub small : r .size ≤ bound
 
-abbrev pub refusal : ℕ → Found
-refusal reason = record { wrong = reason; minus = false; size = 0; next = 0 }
-
-abbrev pub upTo : Bool → ℕ → ℕ → ℕ → Found
-upTo minus size bound next = cond (leb size bound) (record { wrong = 0; minus = minus; size = size; next = next }) (refusal outside)
-
--- a number was read
-pub record Reads (below above : ℕ) (s : List ℕ) (r : Found) : Type 0 where
-  pub is : number below above s ≡ outcome (r .wrong) (signed (r .minus) (r .size)) (drop (r .next) s)
-  pub inside : r .next ≤ length s
+pub record ReadsWord (w : List ℕ) (below above : ℕ) (r : Found) : Type 0 where
+  pub is : r ≡ numberOf w below above
   pub small : r .size ≤ cond (r .minus) below above
 
--- so many values were read to the front of an array, and the rest of it stays
-pub record ReadsValues (count : ℕ) (s : List ℕ) (before now : List ℤ) (r : Values) : Type 0 where
-  pub is : values count s ≡ outcome (r .wrong) (take count now) (drop (r .next) s)
-  pub inside : r .next ≤ length s
-  pub kept : drop count now ≡ drop count before
-  pub size : length now ≡ most
+-- a cursor within a line
+pub record Inside (line : List ℕ) (c : Cursor) : Type 0 where
+  pub order : c .start ≤ c .end
+  pub end : c .end ≤ length line
 
--- a list was read to the front of an array, and the rest of it stays
-pub record ReadsList (s : List ℕ) (before now : List ℤ) (r : Listed) : Type 0 where
-  pub is : listed s ≡ outcome (r .wrong) (take (r .count) now) (drop (r .next) s)
-  pub inside : r .next ≤ length s
+pub record ReadsNumber (line : List ℕ) (c : Cursor) (below above : ℕ) (r : Got) : Type 0 where
+  pub is : r ≡ number line c below above
+  pub inside : Inside line (r .cursor)
+  pub small : r .size ≤ cond (r .minus) below above
+
+pub record ReadsNatural (line : List ℕ) (c : Cursor) (above : ℕ) (r : Got) : Type 0 where
+  pub is : r ≡ natural line c above
+  pub inside : Inside line (r .cursor)
+  pub small : r .size ≤ above
+
+pub record ReadsValues (line : List ℕ) (c : Cursor) (count : ℕ) (before now : List ℤ) (r : Cursor) : Type 0 where
+  pub is : r ≡ afterValues line c count
+  pub inside : Inside line r
+  pub holds : now ≡ sets before 0 (values line c count)
+
+pub record ReadsList (line : List ℕ) (c : Cursor) (before now : List ℤ) (r : Listed) : Type 0 where
+  pub is : r .cursor ≡ listed line c .cursor
+  pub inside : Inside line (r .cursor)
+  pub counted : r .count ≡ length (listed line c .numbers)
   pub small : r .count ≤ most
-  pub kept : drop (r .count) now ≡ drop (r .count) before
-  pub size : length now ≡ most
+  pub holds : now ≡ sets before 0 (listed line c .numbers)
 
-abbrev pub noPair : ℕ → Pair
-noPair reason = record { wrong = reason; first = 0; second = 0; next = 0 }
+pub record ReadsHead (line : List ℕ) (c : Cursor) (r : Headed) : Type 0 where
+  pub is : r ≡ headed line c
+  pub inside : Inside line (r .cursor)
 
-pub record ReadsPair (above : ℕ) (s : List ℕ) (r : Pair) : Type 0 where
-  pub is : paired above s ≡ outcome (r .wrong) (r .first, r .second) (drop (r .next) s)
-  pub inside : r .next ≤ length s
-  pub small-first : r .first ≤ above
-  pub small-second : r .second ≤ above
-
-pub record ReadsHead (s : List ℕ) (r : Headed) : Type 0 where
-  pub is : headed s ≡ outcome (r .wrong) (r .head) (drop (r .next) s)
-  pub inside : r .next ≤ length s
-
-pub record ReadsRooms (s : List ℕ) (r : Roomed) : Type 0 where
-  pub is : roomed s ≡ outcome (r .wrong) (r .rooms) (drop (r .next) s)
-  pub inside : r .next ≤ length s
+pub record ReadsRooms (line : List ℕ) (c : Cursor) (r : Roomed) : Type 0 where
+  pub is : r ≡ roomed line c
+  pub inside : Inside line (r .cursor)
   pub small-exact : r .rooms .exact ≤ most
   pub small-points : r .rooms .points ≤ most
 
-abbrev pub noRooms : ℕ → Roomed
-noRooms reason = record { wrong = reason; rooms = record { given = false; exact = 0; points = 0 }; next = 0 }
+pub record ReadsAge (line : List ℕ) (c : Cursor) (r : Aged) : Type 0 where
+  pub is : r ≡ aged line c
+  pub inside : Inside line (r .cursor)
 
-pub record ReadsAge (s : List ℕ) (r : Aged) : Type 0 where
-  pub is : aged s ≡ outcome (r .wrong) (r .age) []
+pub record ReadsEnd (line : List ℕ) (c : Cursor) (r : Cursor) : Type 0 where
+  pub is : r ≡ ended line c
+  pub inside : Inside line r
 
-pub record ReadsEnd (s : List ℕ) (r : Ended) : Type 0 where
-  pub is : ended s ≡ outcome (r .wrong) (r .rooms, r .age) []
-  pub small-exact : r .rooms .exact ≤ most
-  pub small-points : r .rooms .points ≤ most
+-- what a line says, with the numbers of its two lists at the front of two arrays
+pub record ReadsLine (line : List ℕ) (s : Said) (surface path surface′ path′ : List ℤ) (r : Reading) : Type 0 where
+  pub cursor : r .cursor ≡ s .cursor
+  pub head : r .head ≡ s .head
+  pub surface-count : r .surface ≡ length (s .surface)
+  pub path-count : r .path ≡ length (s .path)
+  pub rooms : r .rooms ≡ s .rooms
+  pub age : r .age ≡ s .age
+  pub surface-is : surface′ ≡ sets surface 0 (s .surface)
+  pub path-is : path′ ≡ sets path 0 (s .path)
+  pub few-values : r .surface ≤ most
+  pub few-numbers : r .path ≤ most
+  pub few-exact : r .rooms .exact ≤ most
+  pub few-points : r .rooms .points ≤ most
+  pub inside : Inside line (r .cursor)
+  pub short : r .cursor .end ≤ longest

@@ -1,15 +1,16 @@
--- Blanks, words and the whole number of a word: what the bytes of a line spell. Assumes nothing.
+-- Blanks, words and the whole number of a word: what the bytes of a line spell, and where. Assumes nothing.
 use mathlib.Core.Bool.{Bool, true, false, not, cond, _&&_, _||_}
 use mathlib.Core.List.{List, [], _∷_}
-use mathlib.Core.Option.{Option, none, some}
 use Prim.Native.Nat.{ℕ, zero, suc, _+_, _-_, _*_}
-use lib.Dec.{leb, eqb}
+use lib.Dec.{leb, ltb, eqb}
 use lib.IntN.{ℤ, pos, negℤ}
-use lib.ListN.{length, take, drop}
+use lib.ListN.{length, getD, take, drop}
+use Rattle.text.specs.declared.word.Place.{Place}
+use Rattle.text.specs.declared.word.Found.{Found}
 
--- a space or a tab
+-- a space, a tab or a carriage return
 unfoldable pub isBlank : ℕ → Bool
-isBlank b = eqb b 32 || eqb b 9
+isBlank b = eqb b 32 || eqb b 9 || eqb b 13
 
 unfoldable pub isSolid : ℕ → Bool
 isSolid b = not (isBlank b)
@@ -18,26 +19,33 @@ isSolid b = not (isBlank b)
 unfoldable pub isDigit : ℕ → Bool
 isDigit b = leb 48 b && leb b 57
 
--- no newline
-unfoldable pub isText : ℕ → Bool
-isText b = not (eqb b 10)
-
--- how many bytes at the front pass the test
+-- how many bytes at the front pass the test, and whether all of them do
 unfoldable pub run : (ℕ → Bool) → List ℕ → ℕ
 run p [] = zero
 run p (b ∷ s) = cond (p b) (suc (run p s)) zero
 
--- whether all of them do
 unfoldable pub every : (ℕ → Bool) → List ℕ → Bool
-every p s = eqb (run p s) (length s)
+every p [] = true
+every p (b ∷ s) = p b && every p s
 
--- the next word: after the blanks in front, all before the next blank
-unfoldable pub word : List ℕ → List ℕ
-word s = let rest = drop (run isBlank s) s in take (run isSolid rest) rest
+-- the first place from `at` on whose byte does not pass the test
+abbrev pub past : (ℕ → Bool) → List ℕ → ℕ → ℕ
+past p line at = at + run p (drop at line)
 
--- what comes after it
-unfoldable pub after : List ℕ → List ℕ
-after s = let rest = drop (run isBlank s) s in drop (run isSolid rest) rest
+-- the next word of a line from `at` on: after the blanks, all before the next blank
+unfoldable pub wordAfter : List ℕ → ℕ → Place
+wordAfter line at = let start = past isBlank line at in record { start = start; end = past isSolid line start }
+
+-- the bytes from a place to before another
+abbrev pub between : List ℕ → ℕ → ℕ → List ℕ
+between line start end = take (end - start) (drop start line)
+
+abbrev pub bytesAt : List ℕ → Place → List ℕ
+bytesAt line place = between line (place .start) (place .end)
+
+-- no word is left
+abbrev pub isNone : Place → Bool
+isNone place = eqb (place .start) (place .end)
 
 -- the number that digits spell, after those that spell n
 unfoldable pub spelled : ℕ → List ℕ → ℕ
@@ -48,11 +56,41 @@ spelled n (d ∷ ds) = spelled (n * 10 + (d - 48)) ds
 unfoldable pub signed : Bool → ℕ → ℤ
 signed minus n = cond minus (negℤ (pos n)) (pos n)
 
--- one or more digits, with or without a minus before them
-unfoldable pub ofDigits : Bool → List ℕ → Option ℤ
-ofDigits minus ds = cond (not (eqb (length ds) 0) && every isDigit ds) (some (signed minus (spelled 0 ds))) none
+-- the reasons: a word that is not a whole number, a number out of its bounds, too few words, a word left over, a line too
+-- long
+abbrev pub notNumber : ℕ
+notNumber = 1
 
--- the whole number of a word: `-` or nothing, and then one or more digits
-unfoldable pub whole : List ℕ → Option ℤ
-whole [] = none
-whole (b ∷ ds) = cond (eqb b 45) (ofDigits true ds) (ofDigits false (b ∷ ds))
+abbrev pub outside : ℕ
+outside = 2
+
+abbrev pub tooFew : ℕ
+tooFew = 3
+
+abbrev pub leftOver : ℕ
+leftOver = 4
+
+abbrev pub tooLong : ℕ
+tooLong = 5
+
+-- what is wrong, and the number is 0 then
+abbrev pub refused : ℕ → Found
+refused reason = record { wrong = reason; minus = false; size = 0 }
+
+-- the number of one or more digits, at most `bound`
+unfoldable pub digitsWithin : Bool → List ℕ → ℕ → Found
+digitsWithin minus ds bound =
+    cond (eqb (length ds) 0) (refused notNumber)
+    (cond (every isDigit ds)
+    (cond (ltb bound (spelled 0 ds)) (refused outside) (record { wrong = 0; minus = minus; size = spelled 0 ds }))
+    (refused notNumber))
+
+-- the whole number of a word, `-` or nothing and then one or more digits, from −below to above
+unfoldable pub numberOf : List ℕ → ℕ → ℕ → Found
+numberOf w below above =
+    cond (eqb (length w) 0) (refused tooFew)
+    (cond (eqb (getD w 0 0) 45) (digitsWithin true (drop 1 w) below) (digitsWithin false w above))
+
+-- a word that begins with `age=`
+unfoldable pub isAge : List ℕ → Bool
+isAge w = eqb (getD w 0 0) 97 && eqb (getD w 1 0) 103 && eqb (getD w 2 0) 101 && eqb (getD w 3 0) 61

@@ -1,30 +1,30 @@
-// Request lines and answer lines as text: `read_line` says what a line is, for every line of bytes, and `write_number`
-// spells a number.
-mod decimal;
+// Request lines, read: what a line says, or what is wrong with it and where. A cursor goes from word to word; once it is
+// refused it stays where the wrong word stands, so the readers go on straight to the end of the line.
 mod lines;
 mod numbers;
-mod reply;
 mod word;
 
 ghost use mathlib.Core.Path.{_≡_};
-ghost use Rattle.text.specs.Line.{meaning, judged, asked, isPassed, unreadable};
-ghost use Rattle.text.specs.Told.{shown, Tells};
-pub use decimal::write_number;
+ghost use Prim.Native.Nat.{_≤_};
+ghost use lib.ListN.{length};
+ghost use Rattle.text.specs.Line.{longest, isPassed, said, request};
+ghost use Rattle.text.specs.Read.{ReadsLine};
 pub use lines::Piece;
-pub use lines::split;
-use numbers::is_empty;
+pub use lines::cut;
+use numbers::read_age;
 use numbers::read_end;
 use numbers::read_head;
 use numbers::read_list;
-pub use reply::write_answer;
-pub use reply::write_bytes;
-pub use reply::write_natural;
+use numbers::read_rooms;
+use request::Head;
+use word::skip;
 
-pub struct Head {
-    pub form: u32,
-    pub first: u32,
-    pub second: u32,
-    pub N: u32,
+// The word that was read last stands from start to before end, and reading goes on at end; or it is the word that is wrong,
+// for the reason `wrong`, and nothing more is read.
+pub struct Cursor {
+    pub start: usize,
+    pub end: usize,
+    pub wrong: u8,
 }
 
 // Room for numerators and for points, and whether the line gives them.
@@ -34,9 +34,9 @@ pub struct Rooms {
     pub points: usize,
 }
 
-// A request besides its two lists: surface and path are the counts of their numbers, age is that of the tilt sample in
-// milliseconds.
-pub struct Request {
+// What a line says besides its two lists, of which the counts are here: a request, unless the cursor is refused.
+pub struct Reading {
+    pub cursor: Cursor,
     pub head: Head,
     pub surface: usize,
     pub path: usize,
@@ -44,21 +44,8 @@ pub struct Request {
     pub age: u16,
 }
 
-pub enum Line {
-    Passed,
-    Unreadable(u8),
-    Asks(Request),
-}
-
-// What a line is. The numbers of a request stand at the front of the two arrays, with zeros behind them.
-pub struct Reading {
-    pub line: Line,
-    pub surface: [i32; 64],
-    pub path: [i32; 64],
-}
-
-// Why a line is unreadable: a word that is not a number, a number out of its bounds, too few words, words left over, a
-// line too long.
+// Why a line is unreadable: a word that is not a whole number, a number out of its bounds, too few words, a word left
+// over, a line too long.
 pub const NOT_NUMBER: u8 = 1;
 
 pub const OUTSIDE: u8 = 2;
@@ -69,7 +56,8 @@ pub const LEFT_OVER: u8 = 4;
 
 pub const TOO_LONG: u8 = 5;
 
-fn is_passed(line: &[u8]) -> bool
+// Whether a line is passed over.
+pub fn is_passed(line: &[u8]) -> bool
     ensures { λ r. ⌜ r ≡ isPassed (now (line .entry)) ⌝ }
 {
     if line.len() == 0 {
@@ -78,72 +66,63 @@ fn is_passed(line: &[u8]) -> bool
     if line[0] == b'#' {
         return true;
     }
-    is_empty(line)
+    skip(line, 0, true) == line.len()
 }
 
-fn not_read(reason: u8) -> Reading
-    ensures { λ r. ⌜ r ≡ shown (unreadable reason) ⌝ }
+// A line that is not too long.
+fn read_request(line: &[u8], surface: &mut [i32; 64], path: &mut [i32; 64]) -> Reading
+    requires { ⌜ length (now line) ≤ longest ⌝ }
+    ensures { λ r. ⌜ ReadsLine (now (line .entry)) (request (now (line .entry))) (now (surface .entry)) (now (path .entry)) (now (surface .exit)) (now (path .exit)) r ⌝ }
 {
+    let first = Cursor {
+        start: 0,
+        end: 0,
+        wrong: 0,
+    };
+    let headed = read_head(line, first);
+    let values = read_list(line, headed.cursor, surface);
+    let numbers = read_list(line, values.cursor, path);
+    let lent = read_rooms(line, numbers.cursor);
+    let aged = read_age(line, lent.cursor);
+    let cursor = read_end(line, aged.cursor);
+    let head = headed.head;
+    let rooms = lent.rooms;
     Reading {
-        line: Line::Unreadable(reason),
-        surface: [0; 64],
-        path: [0; 64],
+        cursor,
+        head,
+        surface: values.count,
+        path: numbers.count,
+        rooms,
+        age: aged.age,
     }
 }
 
-// A line that is neither passed over nor too long.
-fn read_request(line: &[u8]) -> Reading
-    ensures { λ r. ⌜ Tells (judged (asked (now (line .entry)))) r ⌝ }
+// What a line says, without its newline. The numbers of its lists are written to the front of the two lent arrays.
+pub fn read_line(line: &[u8], surface: &mut [i32; 64], path: &mut [i32; 64]) -> Reading
+    ensures { λ r. ⌜ ReadsLine (now (line .entry)) (said (now (line .entry))) (now (surface .entry)) (now (path .entry)) (now (surface .exit)) (now (path .exit)) r ⌝ }
 {
-    let mut surface = [0i32; 64];
-    let mut path = [0i32; 64];
-    let first = read_head(line);
-    if first.wrong != 0 {
-        return not_read(first.wrong);
-    }
-    let a = first.next;
-    let values = read_list(&line[a..], &mut surface);
-    if values.wrong != 0 {
-        return not_read(values.wrong);
-    }
-    let b = a + values.next;
-    let numbers = read_list(&line[b..], &mut path);
-    if numbers.wrong != 0 {
-        return not_read(numbers.wrong);
-    }
-    let c = b + numbers.next;
-    let last = read_end(&line[c..]);
-    if last.wrong != 0 {
-        return not_read(last.wrong);
-    }
-    let head = first.head;
-    let rooms = last.rooms;
-    Reading {
-        line: Line::Asks(Request {
-            head,
-            surface: values.count,
-            path: numbers.count,
-            rooms,
-            age: last.age,
-        }),
-        surface,
-        path,
-    }
-}
-
-// What a line is, without its newline.
-pub fn read_line(line: &[u8]) -> Reading
-    ensures { λ r. ⌜ Tells (meaning (now (line .entry))) r ⌝ }
-{
-    if is_passed(line) {
+    if 4096 < line.len() {
         return Reading {
-            line: Line::Passed,
-            surface: [0; 64],
-            path: [0; 64],
+            cursor: Cursor {
+                start: 4096,
+                end: 4096,
+                wrong: TOO_LONG,
+            },
+            head: Head {
+                form: 0,
+                first: 0,
+                second: 0,
+                N: 0,
+            },
+            surface: 0,
+            path: 0,
+            rooms: Rooms {
+                given: false,
+                exact: 13,
+                points: 13,
+            },
+            age: 0,
         };
     }
-    if 4096 < line.len() {
-        return not_read(TOO_LONG);
-    }
-    read_request(line)
+    read_request(line, surface, path)
 }

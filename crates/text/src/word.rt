@@ -1,25 +1,12 @@
 // The words of a line: where the next one stands, and the whole number that it spells.
 ghost use mathlib.Core.Path.{_≡_};
 ghost use Prim.Native.Nat.{_+_, _-_, _*_, _≤_, _<_, min};
-ghost use Rattle.text.specs.Words.{isBlank, isDigit, spelled, ofDigits, whole};
-ghost use Rattle.text.specs.Read.{isKind, Ran, cap, capped, Stands, Reads, refusal, upTo};
+ghost use lib.ListN.{length, drop};
+ghost use Rattle.text.specs.Words.{isBlank, isDigit, isAge};
+ghost use Rattle.text.specs.Read.{isOf, Skips, Stands, cap, spells, ReadsDigits, ReadsWord};
 use crate::NOT_NUMBER;
 use crate::OUTSIDE;
 use crate::TOO_FEW;
-
-pub enum Kind {
-    Blank,
-    Solid,
-    Digit,
-    Text,
-}
-
-// The number of a word: none, or so far up or down from 0.
-pub enum Whole {
-    Nothing,
-    Up(u64),
-    Down(u64),
-}
 
 // Where a word stands: from start to before end.
 pub struct Place {
@@ -27,21 +14,30 @@ pub struct Place {
     pub end: usize,
 }
 
-// A number that was read, and where reading goes on; or what is wrong, where wrong is not 0.
+// Whether all of some bytes are digits, and the number that they spell, up to a cap.
+pub struct Digits {
+    pub all: bool,
+    pub size: u64,
+}
+
+// A number by its sign and its size; or what is wrong, where that is not 0, and then the number is 0.
 pub struct Found {
     pub wrong: u8,
     pub minus: bool,
     pub size: u64,
-    pub next: usize,
 }
 
+// A space, a tab or a carriage return.
 pub fn is_blank(b: u8) -> bool
     ensures { λ r. ⌜ r ≡ isBlank b ⌝ }
 {
     if b == 32 {
         return true;
     }
-    b == 9
+    if b == 9 {
+        return true;
+    }
+    b == 13
 }
 
 fn is_digit(b: u8) -> bool
@@ -53,29 +49,40 @@ fn is_digit(b: u8) -> bool
     b <= 57
 }
 
-fn is_kind(kind: Kind, b: u8) -> bool
-    ensures { λ r. ⌜ r ≡ isKind kind b ⌝ }
+fn is_of(blank: bool, b: u8) -> bool
+    ensures { λ r. ⌜ r ≡ isOf blank b ⌝ }
 {
-    match kind {
-        Kind::Blank => is_blank(b),
-        Kind::Solid => !is_blank(b),
-        Kind::Digit => is_digit(b),
-        Kind::Text => b != 10,
+    if blank {
+        return is_blank(b);
     }
+    !is_blank(b)
 }
 
-// How many bytes at the front of s are of a kind.
-pub fn run(s: &[u8], kind: Kind) -> usize
-    ensures { λ r. ⌜ Ran (isKind kind) (now (s .entry)) r ⌝ }
+// From `at` on past all blanks, or past all bytes that are none.
+pub fn skip(line: &[u8], at: usize, blank: bool) -> usize
+    requires { ⌜ at ≤ length (now line) ⌝ }
+    ensures { λ r. ⌜ Skips (isOf blank) (now (line .entry)) at r ⌝ }
 {
-    let mut i = 0;
-    while i < s.len() {
-        if !is_kind(kind, s[i]) {
+    let mut i = at;
+    while i < line.len() {
+        if !is_of(blank, line[i]) {
             return i;
         }
         i += 1;
     }
     i
+}
+
+// Where the next word stands.
+pub fn next_word(line: &[u8], at: usize) -> Place
+    requires { ⌜ at ≤ length (now line) ⌝ }
+    ensures { λ r. ⌜ Stands (now (line .entry)) at r ⌝ }
+{
+    let start = skip(line, at, true);
+    Place {
+        start,
+        end: skip(line, start, false),
+    }
 }
 
 // What a digit counts, and 0 for a byte below `0`.
@@ -100,105 +107,91 @@ fn more(n: u64, b: u8) -> u64
     4294967296
 }
 
-// The number that digits spell, up to the cap.
-fn spell(digits: &[u8]) -> u64
-    ensures { λ r. ⌜ r ≡ min (spelled 0 (now (digits .entry))) cap ⌝ }
+fn spell(digits: &[u8]) -> Digits
+    ensures { λ r. ⌜ r ≡ spells (now (digits .entry)) ⌝ }
 {
     let mut n = 0;
     let mut i = 0;
     while i < digits.len() {
+        if !is_digit(digits[i]) {
+            return Digits {
+                all: false,
+                size: 0,
+            };
+        }
         n = more(n, digits[i]);
         i += 1;
     }
-    n
+    Digits { all: true, size: n }
 }
 
-fn of_digits(minus: bool, digits: &[u8]) -> Whole
-    ensures { λ r. ⌜ r ≡ capped (ofDigits minus (now (digits .entry))) ⌝ }
+// The number of one or more digits, up to a bound.
+pub fn bounded(minus: bool, digits: &[u8], bound: u64) -> Found
+    requires { ⌜ bound < cap ⌝ }
+    ensures { λ r. ⌜ ReadsDigits minus (now (digits .entry)) bound r ⌝ }
 {
     if digits.len() == 0 {
-        return Whole::Nothing;
-    }
-    if run(digits, Kind::Digit) != digits.len() {
-        return Whole::Nothing;
-    }
-    let size = spell(digits);
-    if size == 0 {
-        return Whole::Up(0);
-    }
-    if minus {
-        return Whole::Down(size);
-    }
-    Whole::Up(size)
-}
-
-// The whole number of a word.
-fn whole_of(word: &[u8]) -> Whole
-    ensures { λ r. ⌜ r ≡ capped (whole (now (word .entry))) ⌝ }
-{
-    if word.len() == 0 {
-        return Whole::Nothing;
-    }
-    if word[0] == b'-' {
-        return of_digits(true, &word[1..]);
-    }
-    of_digits(false, word)
-}
-
-// Where the next word of s stands.
-pub fn next_word(s: &[u8]) -> Place
-    ensures { λ r. ⌜ Stands (now (s .entry)) r ⌝ }
-{
-    let start = run(s, Kind::Blank);
-    let size = run(&s[start..], Kind::Solid);
-    Place {
-        start,
-        end: start + size,
-    }
-}
-
-fn refused(wrong: u8) -> Found
-    ensures { λ r. ⌜ r ≡ refusal wrong ⌝ }
-{
-    Found {
-        wrong,
-        minus: false,
-        size: 0,
-        next: 0,
-    }
-}
-
-// A number that was read, unless its size is beyond a bound.
-fn bounded(minus: bool, size: u64, bound: u64, next: usize) -> Found
-    ensures { λ r. ⌜ r ≡ upTo minus size bound next ⌝ }
-{
-    if size <= bound {
         return Found {
-            wrong: 0,
-            minus,
-            size,
-            next,
+            wrong: NOT_NUMBER,
+            minus: false,
+            size: 0,
         };
     }
-    refused(OUTSIDE)
+    let read = spell(digits);
+    if !read.all {
+        return Found {
+            wrong: NOT_NUMBER,
+            minus: false,
+            size: 0,
+        };
+    }
+    if bound < read.size {
+        return Found {
+            wrong: OUTSIDE,
+            minus: false,
+            size: 0,
+        };
+    }
+    Found {
+        wrong: 0,
+        minus,
+        size: read.size,
+    }
 }
 
-// The next word of s as a number from -below to above.
-pub fn number(s: &[u8], below: u64, above: u64) -> Found
+// The whole number of a word, from -below to above.
+pub fn number_of(word: &[u8], below: u64, above: u64) -> Found
     requires { ⌜ (below < cap) × (above < cap) ⌝ }
-    ensures { λ r. ⌜ Reads below above (now (s .entry)) r ⌝ }
+    ensures { λ r. ⌜ ReadsWord (now (word .entry)) below above r ⌝ }
 {
-    let place = next_word(s);
-    let start = place.start;
-    let end = place.end;
-    let word = &s[start..end];
     if word.len() == 0 {
-        return refused(TOO_FEW);
+        return Found {
+            wrong: TOO_FEW,
+            minus: false,
+            size: 0,
+        };
     }
-    let read = whole_of(word);
-    match read {
-        Whole::Nothing => refused(NOT_NUMBER),
-        Whole::Up(size) => bounded(false, size, above, end),
-        Whole::Down(size) => bounded(true, size, below, end),
+    if word[0] == b'-' {
+        return bounded(true, &word[1..], below);
     }
+    bounded(false, word, above)
+}
+
+// Whether a word begins with `age=`.
+pub fn is_age(word: &[u8]) -> bool
+    ensures { λ r. ⌜ r ≡ isAge (now (word .entry)) ⌝ }
+{
+    if word.len() < 4 {
+        return false;
+    }
+    if word[0] != b'a' {
+        return false;
+    }
+    if word[1] != b'g' {
+        return false;
+    }
+    if word[2] != b'e' {
+        return false;
+    }
+    word[3] == b'='
 }

@@ -1,9 +1,7 @@
--- Laws of cutting a trace, of the reader's goal and of the numbers. Assumes nothing.
+-- Laws of cutting a trace, of any fold of its pairs fed in parts, and of seeking one. Assumes nothing.
 pub mod Cutting
-pub mod Goal
-pub mod Numbers
-pub mod Asking
 pub mod Parts
-pub mod Turns
+pub mod Leaves
+pub mod Reading
 pub mod Sought
 pub mod Promises

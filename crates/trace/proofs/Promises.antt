@@ -1,55 +1,53 @@
--- What the reader's contracts promise: they leave no choice; parts one after the other make the reader that the uncut trace
--- makes; and its five numbers are those of the whole trace. Assumes nothing.
-use mathlib.Core.Path.{_≡_, refl, sym, ap, _∙_}
-use mathlib.Core.List.{List, [], _∷_, _++_, append-assoc, append-nil}
-use Prim.Native.Nat.{ℕ}
-use Rattle.trace.specs.declared.Five.{Five}
-use Rattle.trace.specs.declared.Reader.{Reader}
+-- The contracts of crate trace leave no choice: each fixes its result. Assumes nothing.
+use mathlib.Core.Path.{_≡_}
+use mathlib.Core.Bool.{Bool, _&&_}
+use mathlib.Core.List.{List}
+use Prim.Native.Nat.{ℕ, _+_}
+use lib.Dec.{ltb}
+use lib.ListN.{length, take, set}
+use Rattle.whole.proofs.Determined.{Determined}
+use Rattle.wire.specs.Start.{recordIn, behind}
+use Rattle.trace.specs.declared.Turn.{Turn}
 use Rattle.trace.specs.declared.seek.Seeker.{Seeker}
-use Rattle.trace.specs.Replay.{replayed}
-use Rattle.trace.specs.Parts.{fedParts, uncut}
-use Rattle.trace.specs.Read.{stepped, News, Read, Takes, Finishes}
-use Rattle.trace.specs.Seek.{searchOf, Begins, Seeks}
-use Rattle.trace.proofs.Parts.{parts}
+use Rattle.trace.specs.Cut.{startsPair}
+use Rattle.trace.specs.Feed.{capped, heldOf, Puts, ahead}
+use Rattle.trace.specs.Seek.{seekerOfPair, soughtIn}
 
--- ---- any two results that a contract allows are equal
+pub record-determined : (bytes : List ℕ) → Determined (λ (r : List ℕ). r ≡ recordIn bytes)
+record-determined bytes = record { value = _; only = λ r e. e }
 
-pub new-determined : {r s : Reader} → News r → News s → r ≡ s
-new-determined a b = a .reader-is ∙ sym (b .reader-is)
+pub behind-determined : (bytes : List ℕ) → Determined (λ (r : List ℕ). r ≡ behind bytes)
+behind-determined bytes = record { value = _; only = λ r e. e }
 
-pub take-determined : {reader : Reader} {part : List ℕ} {r s : Reader} → Takes reader part r → Takes reader part s → r ≡ s
-take-determined a b = a .reader-is ∙ sym (b .reader-is)
+pub ahead-determined : (most rest : ℕ) (part : List ℕ) → Determined (λ (r : ℕ). r ≡ ahead most rest part)
+ahead-determined most rest part = record { value = _; only = λ r e. e }
 
-pub finish-determined : {reader : Reader} {f g : Five} → Finishes reader f → Finishes reader g → f ≡ g
-finish-determined a b = a .numbers-are ∙ sym (b .numbers-are)
+pub more-determined : (n : ℕ) → Determined (λ (r : ℕ). r ≡ capped (n + 1))
+more-determined n = record { value = _; only = λ r e. e }
 
-pub begin-determined : {wanted : ℕ} {r s : Seeker} → Begins wanted r → Begins wanted s → r ≡ s
-begin-determined a b = a .seeker-is ∙ sym (b .seeker-is)
+pub settle-determined : (held : List ℕ) (rest : ℕ) → Determined (λ (r : List ℕ). r ≡ heldOf (take rest held))
+settle-determined held rest = record { value = _; only = λ r e. e }
 
-pub seek-determined : {held : List ℕ} {seeker : Seeker} {part held₁ held₂ : List ℕ} {r s : Seeker} → Seeks held seeker part held₁ r → Seeks held seeker part held₂ s → searchOf held₁ r ≡ searchOf held₂ s
-seek-determined a b = a .search-is ∙ sym (b .search-is)
+pub begin-determined : (wanted : ℕ) → Determined (λ (r : Seeker). r ≡ seekerOfPair wanted)
+begin-determined wanted = record { value = _; only = λ r e. e }
 
--- ---- parts and the whole
+pub seek-determined : (seeker : Seeker) (part : List ℕ) → Determined (λ (r : Seeker). r ≡ soughtIn seeker part)
+seek-determined seeker part = record { value = _; only = λ r e. e }
 
--- a reader that took parts one after the other, as the contract of `take` says
-pub data Took : Reader → List (List ℕ) → Reader → Type 0 where
-  none : {reader : Reader} → Took reader [] reader
-  next : {reader reader′ reader″ : Reader} {part : List ℕ} {ps : List (List ℕ)} → Takes reader part reader′ → Took reader′ ps reader″ → Took reader (part ∷ ps) reader″
+-- the array and the turn that `put` leaves
+pub record PutBack : Type 0 where
+  pub held : List ℕ
+  pub turn : Turn
 
-took-fed : {reader reader′ : Reader} {ps : List (List ℕ)} → Took reader ps reader′ → reader′ ≡ fedParts stepped reader ps
-unfolding fedParts
-took-fed none = refl
-took-fed (next {ps = ps} t more) = took-fed more ∙ ap (λ (r : Reader). fedParts stepped r ps) (t .reader-is)
-
--- "after the last, state and sheet are those of the uncut trace": the state
-pub same-reader : {reader r s : Reader} {ps : List (List ℕ)} → Took reader ps r → Takes reader (uncut ps) s → r ≡ s
-same-reader {reader} {ps = ps} a b = took-fed a ∙ parts stepped reader ps ∙ sym (b .reader-is)
-
-took-read : {reader reader′ : Reader} {ps : List (List ℕ)} (bytes : List ℕ) → Read reader bytes → Took reader ps reader′ → Read reader′ (bytes ++ uncut ps)
-unfolding uncut
-took-read bytes r none = rw append-nil r
-took-read bytes r (next t more) = rw (← append-assoc) (took-read _ (t .takes bytes r) more)
-
--- a new reader that took any parts answers the five numbers of the uncut trace
-pub five-of-parts : {reader reader′ : Reader} {ps : List (List ℕ)} {f : Five} → News reader → Took reader ps reader′ → Finishes reader′ f → f ≡ replayed (uncut ps)
-five-of-parts n t f = f .finishes _ (took-read [] (n .read) t)
+pub put-determined : (most : ℕ) (held : List ℕ) (rest b : ℕ)
+    → Determined (λ (r : PutBack). Puts most held rest b (r .held) (r .turn))
+put-determined most held rest b =
+    let whole = ltb rest (length held) && startsPair most (take (rest + 1) (set held rest b)) in
+    record {
+      value = record { held = set held rest b; turn = record { rest = capped (rest + 1); whole = whole } };
+      only = λ r p. all-of (p .held-is) (p .rest-is) (p .whole-is);
+    }
+  where
+    all-of : {r : PutBack} {l : List ℕ} {n : ℕ} {w : Bool} → r .held ≡ l → r .turn .rest ≡ n → r .turn .whole ≡ w
+        → r ≡ record { held = l; turn = record { rest = n; whole = w } }
+    all-of e f g = rw (← e, ← f, ← g)

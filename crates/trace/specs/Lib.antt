@@ -1,9 +1,6 @@
--- A recorded trace, cut into pairs of a request and its reply; the replay's five numbers; the reader that takes a trace in
--- parts. Assumes nothing.
+-- A recorded trace, cut into pairs of a request and its reply; any fold of the pairs, fed in parts; one pair by its number.
+-- Assumes nothing.
 pub mod Cut
-pub mod Replay
 pub mod Parts
-pub mod Place
-pub mod Read
+pub mod Feed
 pub mod Seek
-pub mod Examples

@@ -1,68 +1,50 @@
--- Seeking one pair of a trace by its number: what a byte does to the seeker, and what it has found of the
--- bytes that it was given. Assumes nothing.
+-- Seeking one pair of a trace by its number, counted from 1: the pairs are counted down, and the bytes of the one that ends
+-- the count stay. What a byte does is defined for every seeker. That it finds the pair is in proofs/Sought.antt.
+-- Assumes nothing.
 use mathlib.Core.Path.{_≡_}
 use mathlib.Core.Bool.{cond}
 use mathlib.Core.List.{List, [], _∷_, _++_}
-use Prim.Native.Nat.{ℕ, suc, _+_, _-_, _≤_, _<_}
+use Prim.Native.Nat.{ℕ, suc, _+_, _-_}
 use lib.Dec.{eqb}
 use lib.ListN.{length, take}
-use Rattle.trace.specs.Cut.{Pair, pairIn, cut, longest}
+use Rattle.trace.specs.Cut.{Pair, longestRecord, cut}
+use Rattle.trace.specs.Feed.{capped, Feed, heldRoom, blank, stepped, heldOf, feedIn}
 use Rattle.trace.specs.Parts.{fed}
-use Rattle.trace.specs.Place.{begun, Holds, heldWith, placeWith, wholeAt}
 use Rattle.trace.specs.declared.seek.Seeker.{Seeker}
 
--- the lent array and the seeker
-pub record Search : Type 0 where
-  pub held : List ℕ
-  pub seeker : Seeker
+-- how many pairs are still to come, the wanted one with them: one fewer
+unfoldable pub fewer : ℕ → Pair → ℕ
+fewer togo pair = togo - 1
 
-abbrev pub searchOf : List ℕ → Seeker → Search
-searchOf held seeker = record { held = held; seeker = seeker }
-
--- a byte more: where it makes a pair whole, that pair is the wanted one or one of those before it
-unfoldable pub searched : Search → ℕ → Search
+-- a byte more: where it makes the wanted pair whole, its bytes stay, and nothing more is read
+unfoldable pub searched : Feed ℕ → ℕ → Feed ℕ
 searched s b =
-    let held = heldWith (s .held) (s .seeker .place) b in
-    let place = placeWith (s .held) (s .seeker .place) b in
-    let togo = s .seeker .togo in
-    cond (eqb togo 0) s
-    (cond (wholeAt place)
-    (searchOf held (cond (eqb togo 1) (record { place = place; togo = 0 }) (record { place = begun; togo = togo - 1 })))
-    (searchOf held (record { place = place; togo = togo })))
+    let next = stepped longestRecord fewer s b in
+    cond (eqb (s .gathered) 0) s
+    (cond (eqb (next .gathered) 0)
+    (record { kept = take heldRoom (s .kept ++ b ∷ []); rest = capped (s .rest + 1); gathered = 0 }) next)
+
+-- what a seeker holds, and the seeker that holds it and nothing else
+abbrev pub searchIn : Seeker → Feed ℕ
+searchIn seeker = feedIn (seeker .held) (seeker .rest) (seeker .togo)
+
+unfoldable pub seekerOf : Feed ℕ → Seeker
+seekerOf s = record { held = heldOf (s .kept); rest = s .rest; togo = s .gathered }
+
+-- the seeker of pair `wanted`; after a part; and after parts one after the other
+unfoldable pub seekerOfPair : ℕ → Seeker
+seekerOfPair wanted = seekerOf (blank wanted)
+
+unfoldable pub soughtIn : Seeker → List ℕ → Seeker
+soughtIn seeker part = seekerOf (fed searched (searchIn seeker) part)
+
+unfoldable pub soughtInAll : Seeker → List (List ℕ) → Seeker
+soughtInAll seeker [] = seeker
+soughtInAll seeker (part ∷ parts) = soughtInAll (soughtIn seeker part) parts
 
 -- pair number `wanted` of the bytes, counted from 1
 pub record IsPair (wanted : ℕ) (bytes : List ℕ) (pair : Pair) : Type 0 where
   pub before : List Pair
   pub after : List Pair
-  pub among : cut longest bytes .pairs ≡ before ++ pair ∷ after
+  pub among : cut longestRecord bytes .pairs ≡ before ++ pair ∷ after
   pub number : suc (length before) ≡ wanted
-
--- not found yet, or held in the array
-pub data Found (wanted : ℕ) (held : List ℕ) (seeker : Seeker) (bytes : List ℕ) : Type 0 where
-  further : 0 < seeker .togo → seeker .togo + length (cut longest bytes .pairs) ≡ wanted → Holds longest held (seeker .place) (cut longest bytes .left) → Found wanted held seeker bytes
-  here : seeker .togo ≡ 0 → seeker .place .rest ≤ length held → IsPair wanted bytes (pairIn (take (seeker .place .rest) held)) → Found wanted held seeker bytes
-
-pub record Sought (wanted : ℕ) (held : List ℕ) (seeker : Seeker) (bytes : List ℕ) : Type 0 where
-  pub room : length held ≡ 256
-  pub found : Found wanted held seeker bytes
-
--- pair number `wanted` of some bytes is sought
-pub record SeeksPair (wanted : ℕ) (held : List ℕ) (seeker : Seeker) : Type 0 where
-  pub bytes : List ℕ
-  pub sought : Sought wanted held seeker bytes
-
--- some pair of some bytes is sought
-pub record Seeking (held : List ℕ) (seeker : Seeker) : Type 0 where
-  pub wanted : ℕ
-  pub bytes : List ℕ
-  pub sought : Sought wanted held seeker bytes
-
--- a part more was given, whatever is sought and was given before
-pub record Seeks (held : List ℕ) (seeker : Seeker) (part : List ℕ) (held′ : List ℕ) (seeker′ : Seeker) : Type 0 where
-  pub search-is : searchOf held′ seeker′ ≡ fed searched (searchOf held seeker) part
-  pub seeks : (wanted : ℕ) (bytes : List ℕ) → Sought wanted held seeker bytes → Sought wanted held′ seeker′ (bytes ++ part)
-
--- nothing was given yet
-pub record Begins (wanted : ℕ) (seeker : Seeker) : Type 0 where
-  pub seeker-is : seeker ≡ record { place = begun; togo = wanted }
-  pub begins : (held : List ℕ) → length held ≡ 256 → 0 < wanted → Sought wanted held seeker []

@@ -1,153 +1,131 @@
-// The replay of a recorded trace: a reader by value that takes the trace in parts, cut anywhere, and answers the five
-// numbers of the whole. How a trace is cut into pairs is in specs/Cut.antt and in the module cut; the numbers are in
-// specs/Replay.antt. Of the door only its promise is known here.
-mod cut;
+// Cutting a trace into pairs, for any fold of them: what starts here, and a byte more of a pair that is not whole yet, which
+// is held in a lent array. No function asks anything of its caller. Of the door nothing is known here.
 pub mod seek;
 
-use cut::Place;
 ghost use mathlib.Core.Path.{_≡_};
-ghost use Rattle.door.specs.Contract.{replyOf};
-ghost use Rattle.trace.specs.Cut.{pairIn};
-ghost use Rattle.trace.specs.Replay.{agrees, replayed};
-ghost use Rattle.trace.specs.Place.{OnePair};
-ghost use Rattle.trace.specs.Read.{counted, Standing, Steps, News, Reading, Takes, Finishes};
+ghost use mathlib.Core.List.{_++_};
+ghost use Prim.Native.Nat.{_+_, _-_, _<_};
+ghost use lib.ListN.{length, take};
+ghost use Rattle.wire.specs.Start.{lengthField, startsRecord, recordIn, behind as behindIn};
+ghost use Rattle.trace.specs.Cut.{pairSize};
+ghost use Rattle.trace.specs.Feed.{capped, zeros, heldOf, Puts, ahead as aheadOf};
 
-// The five numbers.
-pub struct Five {
-    pub calls: u64,
-    pub same: u64,
-    pub differ: u64,
-    pub first: u64,
+// What a byte did: how many bytes there are from the pair's start on, and whether they are a whole pair.
+pub struct Turn {
     pub rest: u64,
+    pub whole: bool,
 }
 
-// The numbers of the whole pairs so far.
-pub struct Tally {
-    pub calls: u64,
-    pub same: u64,
-    pub differ: u64,
-    pub first: u64,
-}
-
-pub struct State {
-    pub place: Place,
-    pub tally: Tally,
-}
-
-pub struct Reader {
-    pub held: [u8; 256],
-    pub state: State,
-}
-
-// The recorded reply is today's, byte for byte.
-fn agree(pair: &[u8]) -> bool
-    requires { ⌜ OnePair (now pair) ⌝ }
-    ensures { λ r. ⌜ r ≡ agrees replyOf (pairIn (now (pair .entry))) ⌝ }
+fn length_field(bytes: &[u8]) -> usize
+    ensures { λ r. ⌜ (r ≡ lengthField (now (bytes .entry))) × (r < 65536) ⌝ }
 {
-    let request = cut::length_at(pair, 0);
-    let mut today = [0u8; 34];
-    let count = door::door_reply(&pair[..request], &mut today);
-    check::same(&today[..count], &pair[request..])
+    wire::word_at(bytes, 0) as usize
 }
 
-// One pair more.
-fn count_pair(tally: Tally, alike: bool) -> Tally
-    ensures { λ r. ⌜ r ≡ counted tally alike ⌝ }
+// The record that starts here, as far as it is there, and what stands behind it.
+pub fn record_in(bytes: &[u8]) -> &[u8]
+    ensures { λ r. ⌜ now r ≡ recordIn (now (bytes .entry)) ⌝ }
 {
-    let calls = cut::more(tally.calls);
-    if alike {
-        return Tally {
-            calls,
-            same: cut::more(tally.same),
-            differ: tally.differ,
-            first: tally.first,
-        };
+    let n = length_field(bytes);
+    if n < bytes.len() {
+        return &bytes[..n];
     }
-    let differ = cut::more(tally.differ);
-    if tally.first == 0 {
-        return Tally {
-            calls,
-            same: tally.same,
-            differ,
-            first: calls,
-        };
+    bytes
+}
+
+pub fn behind(bytes: &[u8]) -> &[u8]
+    ensures { λ r. ⌜ now r ≡ behindIn (now (bytes .entry)) ⌝ }
+{
+    let n = length_field(bytes);
+    let size = bytes.len();
+    if n < size {
+        return &bytes[n..];
     }
-    Tally {
-        calls,
-        same: tally.same,
-        differ,
-        first: tally.first,
+    &bytes[size..]
+}
+
+// A whole record starts here.
+fn starts_record(most: usize, bytes: &[u8]) -> bool
+    ensures { λ r. ⌜ r ≡ startsRecord most (now (bytes .entry)) ⌝ }
+{
+    let n = length_field(bytes);
+    if n < 8 {
+        return false;
     }
+    if most < n {
+        return false;
+    }
+    n <= bytes.len()
+}
+
+// How many bytes the whole pair is that starts here; 0 where none does.
+fn pair_size(most: usize, bytes: &[u8]) -> usize
+    ensures { λ r. ⌜ r ≡ pairSize most (now (bytes .entry)) ⌝ }
+{
+    let next = behind(bytes);
+    if !starts_record(most, bytes) {
+        return 0;
+    }
+    if !starts_record(most, next) {
+        return 0;
+    }
+    length_field(bytes) + length_field(next)
+}
+
+// The same where no pair has begun; where one has, 0.
+pub fn ahead(most: usize, rest: u64, part: &[u8]) -> usize
+    ensures { λ r. ⌜ r ≡ aheadOf most rest (now (part .entry)) ⌝ }
+{
+    if rest == 0 {
+        return pair_size(most, part);
+    }
+    0
+}
+
+// One more, up to the greatest number.
+pub fn more(n: u64) -> u64
+    ensures { λ r. ⌜ r ≡ capped (n + 1) ⌝ }
+{
+    if n < u64::MAX {
+        return n + 1;
+    }
+    n
 }
 
 // A byte more.
-fn step(held: &mut [u8], state: State, b: u8) -> State
-    requires { ⌜ Standing (now held) state ⌝ }
-    ensures { λ r. ⌜ Steps (now (held .entry)) state b (now (held .exit)) r ⌝ }
+pub fn put(most: usize, held: &mut [u8], rest: u64, b: u8) -> Turn
+    ensures { λ r. ⌜ Puts most (now (held .entry)) rest b (now (held .exit)) r ⌝ }
 {
-    let tally = state.tally;
-    let place = cut::put(held, state.place, b);
-    if !cut::is_whole(place) {
-        return State { place, tally };
+    let next = more(rest);
+    let at = rest as usize;
+    if held.len() <= at {
+        return Turn {
+            rest: next,
+            whole: false,
+        };
     }
-    let end = place.rest;
-    State {
-        place: cut::start(),
-        tally: count_pair(tally, agree(&held[..end])),
-    }
-}
-
-// A reader that has read nothing.
-pub fn new() -> Reader
-    ensures { λ r. ⌜ News r ⌝ }
-{
-    Reader {
-        held: [0u8; 256],
-        state: State {
-            place: cut::start(),
-            tally: Tally {
-                calls: 0,
-                same: 0,
-                differ: 0,
-                first: 0,
-            },
-        },
+    held[at] = b;
+    let end = at + 1;
+    Turn {
+        rest: next,
+        whole: pair_size(most, &held[..end]) != 0,
     }
 }
 
-// The next part, of any length.
-pub fn take(reader: Reader, part: &[u8]) -> Reader
-    requires { ⌜ Reading reader ⌝ }
-    ensures { λ r. ⌜ Takes reader (now (part .entry)) r ⌝ }
+// Zeros from a place on.
+fn clear(held: &mut [u8], rest: u64)
+    ensures { λ _. ⌜ now (held .exit) ≡ take rest (now (held .entry)) ++ zeros (length (now (held .entry)) - rest) ⌝ }
 {
-    let mut held = reader.held;
-    let mut state = reader.state;
-    let mut i = 0;
-    while i < part.len() {
-        state = step(&mut held, state, part[i]);
+    let mut i = rest as usize;
+    while i < held.len() {
+        held[i] = 0;
         i += 1;
     }
-    Reader { held, state }
 }
 
-// The five numbers of all that was read.
-pub fn finish(reader: Reader) -> Five
-    ensures { λ r. ⌜ Finishes reader r ⌝ }
+// Zeros behind the bytes that are kept, so that what is held is what was read and nothing else.
+pub fn settle(held: &mut [u8; 256], rest: u64)
+    ensures { λ _. ⌜ now (held .exit) ≡ heldOf (take rest (now (held .entry))) ⌝ }
 {
-    let tally = reader.state.tally;
-    let place = reader.state.place;
-    Five {
-        calls: tally.calls,
-        same: tally.same,
-        differ: tally.differ,
-        first: tally.first,
-        rest: place.rest as u64,
-    }
-}
-
-// The five numbers of a trace that is there as a whole.
-pub fn replay(bytes: &[u8]) -> Five
-    ensures { λ r. ⌜ r ≡ replayed (now (bytes .entry)) ⌝ }
-{
-    finish(take(new(), bytes))
+    clear(held, rest);
 }

@@ -1,57 +1,86 @@
-// Seeking pair `wanted` of a trace, counted from 1: the same cutting, which stops where that pair is whole and keeps it in
-// the lent array.
-ghost use mathlib.Core.List.{_∷_, []};
-ghost use Rattle.trace.specs.Seek.{Seeking, Seeks, Begins};
-use crate::cut;
-use crate::cut::Place;
+// Seeking pair `wanted` of a trace, counted from 1: the same cutting, which stops where that pair is whole and keeps it.
+ghost use mathlib.Core.Path.{_≡_};
+ghost use lib.ListN.{length};
+ghost use Rattle.trace.specs.Feed.{heldRoom, feedIn};
+ghost use Rattle.trace.specs.Seek.{searched, seekerOfPair, soughtIn};
+use crate::put;
+use crate::settle;
 
-// The place, and how many pairs are still to come, the wanted one with them; 0 where it is held.
+// The bytes of the pair that is not whole yet, or of the one that was found, with zeros behind them; how many there are from
+// its start on; and how many pairs are still to come, the wanted one with them: 0 where it was found.
 pub struct Seeker {
-    pub place: Place,
+    pub held: [u8; 256],
+    pub rest: u64,
     pub togo: u64,
 }
 
-pub fn begin(wanted: u64) -> Seeker
-    ensures { λ r. ⌜ Begins wanted r ⌝ }
-{
-    Seeker {
-        place: cut::start(),
-        togo: wanted,
-    }
+struct Seen {
+    rest: u64,
+    togo: u64,
 }
 
+// The greatest length of a record.
+const LONGEST: usize = 126;
+
 // A byte more.
-fn seek_byte(held: &mut [u8], seeker: Seeker, b: u8) -> Seeker
-    requires { ⌜ Seeking (now held) seeker ⌝ }
-    ensures { λ r. ⌜ Seeks (now (held .entry)) seeker (b ∷ []) (now (held .exit)) r ⌝ }
+fn see(held: &mut [u8], rest: u64, togo: u64, b: u8) -> Seen
+    requires { ⌜ length (now held) ≡ heldRoom ⌝ }
+    ensures { λ r. ⌜ feedIn (now (held .exit)) (r .rest) (r .togo) ≡ searched (feedIn (now (held .entry)) rest togo) b ⌝ }
 {
-    let togo = seeker.togo;
     if togo == 0 {
-        return seeker;
+        return Seen { rest, togo };
     }
-    let place = cut::put(held, seeker.place, b);
-    if !cut::is_whole(place) {
-        return Seeker { place, togo };
+    let turn = put(LONGEST, held, rest, b);
+    if !turn.whole {
+        return Seen {
+            rest: turn.rest,
+            togo,
+        };
     }
     if togo == 1 {
-        return Seeker { place, togo: 0 };
+        return Seen {
+            rest: turn.rest,
+            togo: 0,
+        };
     }
-    Seeker {
-        place: cut::start(),
+    Seen {
+        rest: 0,
         togo: togo - 1,
     }
 }
 
-// The next part, of any length.
-pub fn seek(held: &mut [u8], seeker: Seeker, part: &[u8]) -> Seeker
-    requires { ⌜ Seeking (now held) seeker ⌝ }
-    ensures { λ r. ⌜ Seeks (now (held .entry)) seeker (now (part .entry)) (now (held .exit)) r ⌝ }
+// The same of an array.
+fn see_in(held: &mut [u8; 256], rest: u64, togo: u64, b: u8) -> Seen
+    ensures { λ r. ⌜ feedIn (now (held .exit)) (r .rest) (r .togo) ≡ searched (feedIn (now (held .entry)) rest togo) b ⌝ }
 {
-    let mut next = seeker;
+    see(held, rest, togo, b)
+}
+
+// Nothing was looked through yet.
+pub fn begin(wanted: u64) -> Seeker
+    ensures { λ r. ⌜ r ≡ seekerOfPair wanted ⌝ }
+{
+    Seeker {
+        held: [0u8; 256],
+        rest: 0,
+        togo: wanted,
+    }
+}
+
+// The next part, of any length.
+pub fn seek(seeker: Seeker, part: &[u8]) -> Seeker
+    ensures { λ r. ⌜ r ≡ soughtIn seeker (now (part .entry)) ⌝ }
+{
+    let mut held = seeker.held;
+    let mut rest = seeker.rest;
+    let mut togo = seeker.togo;
     let mut i = 0;
     while i < part.len() {
-        next = seek_byte(held, next, part[i]);
+        let seen = see_in(&mut held, rest, togo, part[i]);
+        rest = seen.rest;
+        togo = seen.togo;
         i += 1;
     }
-    next
+    settle(&mut held, rest);
+    Seeker { held, rest, togo }
 }

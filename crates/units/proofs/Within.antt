@@ -1,12 +1,12 @@
 -- A number that is not beyond its bounds is within them: what callers take from the tests. Assumes nothing.
-use mathlib.Core.Path.{_≡_, refl, sym, _∙_}
+use mathlib.Core.Path.{_≡_, refl}
 use mathlib.Core.Bool.{Bool, true, false, _||_}
-use Prim.Native.Nat.{ℕ, _≤_, _<_}
+use Prim.Native.Nat.{_≤_}
 use native.Mathlib.Omega.{arith}
 use lib.IntN.{ℤ, pos, negsuc, natAbs}
 use lib.Dec.{ltb}
 use borrow.Author.Tests.{ltb-false}
-use Rattle.units.specs.Bounds.{beyondTravel, beyondPath, one, most}
+use Rattle.units.specs.Bounds.{beyondTravel, beyondPath, pathOne, most}
 
 pub travel-within : (z : ℤ) → beyondTravel z ≡ false → natAbs z ≤ most
 unfolding beyondTravel
@@ -15,7 +15,7 @@ travel-within z e = ltb-false most (natAbs z) e
 -- a path number is a natural number, at most one
 pub record IsPath (z : ℤ) : Type 0 where
   pub size : z ≡ pos (natAbs z)
-  pub most : natAbs z ≤ one
+  pub most : natAbs z ≤ pathOne
 
 right-false : (a b : Bool) → (a || b) ≡ false → b ≡ false
 right-false true b e = cc
@@ -23,8 +23,8 @@ right-false false b e = e
 
 pub path-within : (z : ℤ) → beyondPath z ≡ false → IsPath z
 unfolding beyondPath
-path-within (pos n) e = record { size = refl; most = ltb-false one n (right-false (ltb n 0) (ltb one n) e) }
-path-within (negsuc n) e = record { size = cc; most = ltb-false one _ (cc) }
+path-within (pos n) e = record { size = refl; most = ltb-false pathOne n (right-false (ltb n 0) (ltb pathOne n) e) }
+path-within (negsuc n) e = record { size = cc; most = ltb-false pathOne _ (cc) }
 
 pub zero-within : IsPath (pos 0)
 zero-within = record { size = refl; most = omega arith }

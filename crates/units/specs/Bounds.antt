@@ -6,8 +6,8 @@ use lib.Signed.{ltZ}
 use lib.Dec.{ltb}
 
 -- one, in path numbers: they are "whole numbers of 1/1024"
-abbrev pub one : ℕ
-one = 1024
+abbrev pub pathOne : ℕ
+pathOne = 1024
 
 -- the greatest size of a travel
 abbrev pub most : ℕ
@@ -27,4 +27,4 @@ beyondTravel z = ltb most (natAbs z)
 
 -- "Path numbers: 0 to 1,024."
 unfoldable pub beyondPath : ℤ → Bool
-beyondPath z = ltZ z (pos 0) || ltZ (pos one) z
+beyondPath z = ltZ z (pos 0) || ltZ (pos pathOne) z

@@ -46,7 +46,7 @@ pub fn units_of(t: Travel) -> Num
 }
 
 // The size of a path number, in 1/1024. A path number within its bounds is its size.
-pub fn size_of(p: PathNumber) -> u64
+fn size_of(p: PathNumber) -> u64
     ensures { λ r. ⌜ r ≡ natAbs (p .0) ⌝ }
 {
     if p.0 < 0 {

@@ -13,7 +13,7 @@ fn wide(x: u8) -> u64
 }
 
 // Byte k.
-fn byte_at(bytes: &[u8], k: usize) -> u64
+pub fn byte_at(bytes: &[u8], k: usize) -> u64
     ensures { λ r. ⌜ (r ≡ getD (now (bytes .entry)) k 0) × (r < 256) ⌝ }
 {
     if k < bytes.len() {

@@ -1,14 +1,15 @@
 //! Requests that are accepted.
 
+use crate::edition::Edition;
 use crate::line::{Asked, MOST};
 use crate::quantity::{REACH, SCALE};
-use crate::request::{MOST_AGE, MOST_ARGUMENTS, MOST_PATH_DEGREE};
+use crate::request::{MOST_AGE, MOST_ARGUMENTS};
 use crate::shape::{Form, Shape};
 use crate::xorshift::Xorshift;
 
-/// All hundred legal shapes.
-pub fn legal_shapes() -> Vec<Shape> {
-    let (most, most_path) = (MOST_ARGUMENTS as usize, MOST_PATH_DEGREE as usize);
+/// All legal shapes, a hundred with N up to 3.
+pub fn legal_shapes(edition: &Edition) -> Vec<Shape> {
+    let (most, most_path) = (MOST_ARGUMENTS as usize, edition.most_path_degree);
     let mut shapes = Vec::new();
     for form in [Form::Curve, Form::Tensor, Form::Triangle] {
         for first in 0..=most {

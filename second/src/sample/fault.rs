@@ -1,5 +1,6 @@
 //! Faults put into requests that would otherwise be accepted.
 
+use crate::edition::TODAY;
 use crate::line::{Asked, OWN_ROOM};
 use crate::quantity::{REACH, SCALE};
 use crate::refusal::Refusal;
@@ -24,7 +25,8 @@ pub fn stale(rng: &mut Xorshift) -> u16 {
 
 /// A shape just beyond the limits, its counts still small.
 pub fn shape_beyond(rng: &mut Xorshift, form: Form) -> Shape {
-    let path_degree = rng.below(4);
+    let most_path = TODAY.most_path_degree;
+    let path_degree = rng.below(most_path + 1);
     let first = rng.below(5);
     let legal = Shape {
         form,
@@ -37,7 +39,7 @@ pub fn shape_beyond(rng: &mut Xorshift, form: Form) -> Shape {
     };
     match rng.below(3) {
         0 => Shape {
-            path_degree: 4 + rng.below(3),
+            path_degree: most_path + 1 + rng.below(3),
             ..legal
         },
         1 if form != Form::Tensor => Shape {

@@ -1,18 +1,30 @@
 //! Random request lines of every kind, the same for the same seed.
 
+pub mod cards;
 mod draft;
 mod fault;
 mod frame;
+pub mod longs;
+pub mod patches;
 pub mod records;
 mod tape;
 mod text;
+pub mod ticks;
+pub mod torn;
 pub mod traces;
 
+use crate::edition::{Edition, TODAY};
 use crate::line::{read, Asked};
 use crate::refusal::Refusal;
 use crate::request::MOST_AGE;
 use crate::shape::{Form, Shape};
 use crate::xorshift::Xorshift;
+
+/// An accepted request of an edition: any legal shape, legal numbers, age 0.
+pub fn accepted(rng: &mut Xorshift, edition: &Edition) -> Asked {
+    let shape = rng.pick(&draft::legal_shapes(edition));
+    draft::any(rng, &shape)
+}
 
 /// What a sample must be answered.
 #[derive(Clone, Copy, Debug, PartialEq, Eq)]
@@ -93,7 +105,7 @@ impl Sampler {
     pub fn new(seed: u64) -> Self {
         Sampler {
             rng: Xorshift::new(seed),
-            shapes: draft::legal_shapes(),
+            shapes: draft::legal_shapes(&TODAY),
             turns: [0; KINDS.len()],
             mirror: None,
         }
@@ -201,7 +213,7 @@ impl Sampler {
         let shape = match refusal {
             Refusal::Degree => loop {
                 let shape = self.any_shape();
-                if shape.arguments() == 4 || shape.path_degree == 3 {
+                if shape.arguments() == 4 || shape.path_degree == TODAY.most_path_degree {
                     break shape;
                 }
             },

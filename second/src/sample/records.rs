@@ -3,6 +3,7 @@
 use super::frame::{self, Fault};
 use super::{draft, fault, share};
 use crate::door::{door, FRAME, ROOM};
+use crate::edition::TODAY;
 use crate::line::Asked;
 use crate::record::{put, settle, word, AGED, AGED_HEAD, HEAD, REQUEST};
 use crate::refusal::Refusal;
@@ -101,7 +102,7 @@ impl Records {
     pub fn new(seed: u64) -> Self {
         Records {
             rng: Xorshift::new(seed),
-            shapes: draft::legal_shapes(),
+            shapes: draft::legal_shapes(&TODAY),
             turns: [0; KINDS.len()],
             changes: Walk::default(),
             cuts: Walk::default(),
@@ -317,7 +318,7 @@ impl Records {
         let shape = match fault {
             Fault::Degree => loop {
                 let shape = self.any_shape();
-                if shape.arguments() == 4 || shape.path_degree == 3 {
+                if shape.arguments() == 4 || shape.path_degree == TODAY.most_path_degree {
                     break shape;
                 }
             },

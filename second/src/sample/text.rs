@@ -4,7 +4,7 @@ use crate::line::{Asked, LONGEST};
 use crate::xorshift::Xorshift;
 
 /// Lines that are passed over.
-pub const PASSED_OVER: [&[u8]; 9] = [
+pub const PASSED_OVER: [&[u8]; 11] = [
     b"",
     b" ",
     b"\t",
@@ -13,11 +13,13 @@ pub const PASSED_OVER: [&[u8]; 9] = [
     b"# a ride to pass over",
     b"#1 1 0 1 2 0 100 2 0 1024",
     b"#\r",
+    b"\r",
+    b"\t\r \r",
     b"# \xff\x00 +",
 ];
 
 /// Words that are no whole numbers.
-const NO_NUMBERS: [&[u8]; 22] = [
+const NO_NUMBERS: [&[u8]; 24] = [
     b"x",
     b"+5",
     b"+0",
@@ -38,8 +40,10 @@ const NO_NUMBERS: [&[u8]; 22] = [
     b"\xc2\xa05",
     b"7\x0b",
     b"\x0c3",
-    b"5\r",
+    b"\r\x0b",
     b"#",
+    b"age=",
+    b"age=3",
 ];
 
 /// The words of a request line.
@@ -55,7 +59,7 @@ fn words(asked: &Asked) -> Vec<Vec<u8>> {
 pub fn odd(rng: &mut Xorshift, asked: &Asked, turn: usize) -> (&'static str, Vec<u8>) {
     let mut words = words(asked);
     let at = rng.below(words.len());
-    match turn % 9 {
+    match turn % 11 {
         0 => ("tabs", words.join(&b'\t')),
         1 => ("many blanks", words.join(&b" \t  "[..])),
         2 => {
@@ -74,15 +78,21 @@ pub fn odd(rng: &mut Xorshift, asked: &Asked, turn: usize) -> (&'static str, Vec
             ("minus zero", words.join(&b' '))
         }
         5 => {
-            let zero: [&[u8]; 3] = [b"0", b"-0", b"00"];
+            let zero: [&[u8]; 2] = [b"age=0", b"age=00"];
             words.push(rng.pick(&zero).to_vec());
             ("age 0 written", words.join(&b' '))
         }
         6 => {
-            words.extend([b"13".to_vec(), b"64".to_vec(), b"0".to_vec()]);
+            words.extend([b"13".to_vec(), b"64".to_vec(), b"age=0".to_vec()]);
             ("rooms and age 0 written", words.join(&b' '))
         }
-        7 => {
+        7 => ("carriage returns", words.join(&b"\r"[..])),
+        8 => {
+            words[at].splice(0..0, *b"\r ");
+            words.push(b"\r".to_vec());
+            ("a carriage return at the end", words.join(&b' '))
+        }
+        9 => {
             let spare = LONGEST - words.join(&b' ').len();
             words[at].extend(vec![b' '; spare]);
             ("just as long as may be, by blanks", words.join(&b' '))
@@ -107,7 +117,7 @@ pub fn unreadable(rng: &mut Xorshift, asked: &Asked, turn: usize) -> (&'static s
     let mut words = words(asked);
     let count_at = [4, 5 + asked.surface.len()];
     let any = rng.below(words.len());
-    let (name, at, wrong): (_, usize, &[u8]) = match turn % 14 {
+    let (name, at, wrong): (_, usize, &[u8]) = match turn % 16 {
         0 | 1 => ("no number", any, rng.pick(&NO_NUMBERS)),
         2 => {
             let far: [&[u8]; 4] = [b"-1", b"4294967296", b"18446744073709551617", &[b'9'; 99]];
@@ -143,7 +153,19 @@ pub fn unreadable(rng: &mut Xorshift, asked: &Asked, turn: usize) -> (&'static s
         }
         9 => {
             words.extend(vec![b"13".to_vec(); rng.pick(&[1, 3])]);
-            let far: [&[u8]; 5] = [b"-1", b"65536", b"65786", b"4294967296", b"x"];
+            let far: [&[u8]; 11] = [
+                b"age=",
+                b"age=x",
+                b"age=-1",
+                b"age=-0",
+                b"age=+1",
+                b"age=65536",
+                b"age=4294967296",
+                b"age=18446744073709551616",
+                b"age=1=1",
+                b"age=1\x0b",
+                b"age=age=1",
+            ];
             ("age too far", words.len() - 1, rng.pick(&far))
         }
         10 => {
@@ -151,7 +173,7 @@ pub fn unreadable(rng: &mut Xorshift, asked: &Asked, turn: usize) -> (&'static s
             return ("many words left over", words.join(&b' '));
         }
         11 => {
-            // One word is missing, or four are left over.
+            // One word is missing, or four are left over with it.
             let mut count = asked.path.len() + 1;
             if rng.once_in(2) {
                 count -= 2;
@@ -168,11 +190,32 @@ pub fn unreadable(rng: &mut Xorshift, asked: &Asked, turn: usize) -> (&'static s
             }
             return ("too long", words.join(&b' '));
         }
+        13 => {
+            // A number alone is no age, and an age is the last word.
+            let late: [&[u8]; 10] = [
+                b"1024",
+                b"0",
+                b"Age=1",
+                b"age",
+                b"age = 1",
+                b"age= 1",
+                b"age=1 2",
+                b"age=1 2 2",
+                b"2 age=1 2",
+                b"2 age=1",
+            ];
+            words.push(rng.pick(&late).to_vec());
+            return ("age not marked, or not the last", words.join(&b' '));
+        }
+        14 => {
+            words.extend([b"13".to_vec(), b"13".to_vec(), b"13".to_vec()]);
+            return ("rooms and a number", words.join(&b' '));
+        }
         _ => {
-            let late: [&[u8]; 4] = [b"\r", b" \r", b" # late", b"#"];
+            let late: [&[u8]; 4] = [b"\x0b", b" \x0c", b" # late", b"#"];
             words[0].insert(0, b' ');
             match rng.below(2) {
-                0 => words[0][0] = b'\r',
+                0 => words[0][0] = b'\x0b',
                 _ => words.last_mut().unwrap().extend(rng.pick(&late)),
             }
             return ("stray at an end", words.join(&b' '));

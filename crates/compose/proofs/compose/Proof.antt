@@ -1,57 +1,77 @@
 -- `compose::compose` meets its contract: a refusal leaves both arrays; an acceptance writes the numerators, which are
 -- document 01's, and each of them rounded. Assumes nothing.
 use mathlib.Core.Path.{_≡_, refl, sym, ap, _∙_}
-use Prim.Native.Nat.{ℕ, _+_, _^_, _≤_, _<_}
+use Prim.Native.Nat.{_^_}
 use native.Mathlib.Omega.{arith}
 use lib.ListN.{length}
 use borrow.Author.Needs.{needs}
+use Rattle.request.specs.Head.{degree}
 use Rattle.request.specs.Request.{Request}
 use Rattle.request.proofs.Forms.{degree-most}
+use Rattle.request.proofs.Accepted.{accepts}
 use Rattle.net.specs.Loaded.{Composable}
-use Rattle.compose.specs.Contract.{requestOf}
-use Rattle.compose.proofs.Acceptance.{Accepted, accepts}
 use Rattle.compose.proofs.Entry.{refused-result, composable, Room, room-for, all-roundable, accepted-result}
 use Rattle.compose.proofs.compose.Statement.{statement}
 use Rattle.compose.proofs.compose.Tie as tie
 
 abbrev rq : tie.Start → Request
-rq c = requestOf (c .args .form) (c .args .first) (c .args .second) (c .args .N) (c .args .surface .now) (c .args .path .now)
+rq s = record { head = s .args .head; surface = s .args .surface .now; path = s .args .path .now }
 
--- what the judgement says where it accepts
-fine : (c : tie.Else1) → Composable (rq (c .before .before .before))
-unfolding requestOf
+-- where the request is accepted: from where the function begins, and from behind each call
+abbrev begun : tie.Else1 → tie.Start
+begun c = c .before .before .before
+
+abbrev judged : tie.After-numerators → tie.Else1
+judged c = c .before
+
+abbrev formed : tie.After-write-exact → tie.After-numerators
+formed c = c .before .before .before
+
+abbrev scaled : tie.After-scale → tie.After-write-exact
+scaled c = c .before .before .before .before
+
+-- what the judgement says there
+fine : (c : tie.Else1) → Composable (rq (begun c))
 fine c =
-    composable (rq (c .before .before .before)) (c .before .before .before .args .age .0) _ _
-    (accepts (rq (c .before .before .before)) (c .before .before .before .args .age .0) (length (c .before .before .before .args .exact .now)) (length (c .before .before .before .args .points .now)) (ap (λ a. a .number) (sym (c .before .before .judge .ensures)) ∙ c .if1 .left))
+    let s = begun c in
+    let zero-is = ap (λ a. a .number) (sym (c .before .before .judge .ensures)) ∙ c .if1 .left in
+    composable (rq s) (s .args .age .0) _ _ (accepts (rq s) (s .args .age .0) (length (s .args .exact .now)) (length (s .args .points .now)) zero-is)
 
-room : (c : tie.Else1) → Room (rq (c .before .before .before)) (length (c .before .before .before .args .exact .now)) (length (c .before .before .before .args .points .now)) (c .before .before .judge .result .count)
-unfolding requestOf
-room c = room-for (rq (c .before .before .before)) (c .before .before .before .args .age .0) _ _ (c .before .before .judge .result) (c .before .before .judge .ensures) (c .if1 .left)
+room : (c : tie.Else1) → Room (rq (begun c)) (length (begun c .args .exact .now)) (length (begun c .args .points .now)) (c .before .before .judge .result .count)
+room c = room-for (rq (begun c)) (begun c .args .age .0) _ _ (c .before .before .judge .result) (c .before .before .judge .ensures) (c .if1 .left)
+
+-- and what the scale is
+scale-is : (c : tie.After-scale) → c .scale .result ≡ 1024 ^ degree (rq (begun (judged (formed (scaled c)))) .head)
+scale-is c = c .scale .ensures ∙ ap (λ n. 1024 ^ n) (c .before .degree .ensures)
 
 judge-requires : tie.Need-judge-requires
 judge-requires c κs = search needs
 
 returns : tie.Need-returns
-unfolding requestOf
-returns c = refused-result (requestOf (c .before .before .before .args .form) (c .before .before .before .args .first) (c .before .before .before .args .second) (c .before .before .before .args .N) (c .before .before .before .args .surface .now) (c .before .before .before .args .path .now)) _ _ _ _ (c .before .before .judge .ensures) (c .if1 .taken)
+returns c = refused-result (rq (c .before .before .before)) _ _ _ _ (c .before .before .judge .ensures) (c .if1 .taken)
 
 numerators-requires : tie.Need-numerators-requires
-unfolding requestOf
 numerators-requires c κs = fine c
 
 write-exact-requires : tie.Need-write-exact-requires
-write-exact-requires c κs = let r = room (c .before .before .before) in (r .most, r .exact-room)
+write-exact-requires c κs =
+    let r = room (judged (c .before .before)) in
+    let most = r .most in
+    let enough = r .exact-room in
+    (omega arith, omega arith)
 
 degree-requires : tie.Need-degree-requires
 degree-requires c κs = search needs
 
 scale-requires : tie.Need-scale-requires
-unfolding requestOf
-scale-requires c κs = rw (c .degree .ensures) (degree-most _ (fine (c .before .before .before .before .before .before .before) .small))
+scale-requires c κs = rw (c .degree .ensures) (degree-most _ (fine (judged (formed (c .before .before .before))) .small))
 
 write-points-requires : tie.Need-write-points-requires
-unfolding requestOf
-write-points-requires c κs = let r = room (c .before .before .before .before .before .before .before .before .before) in (let i = r .is in omega arith, r .points-room, all-roundable _ _ _ _ (fine (c .before .before .before .before .before .before .before .before .before)) (c .before .before .before .before .before .before .before .before .numerators .ensures) (c .before .scale .ensures ∙ ap (λ n. 1024 ^ n) (c .before .before .degree .ensures)) (r .is) (r .most))
+write-points-requires c κs =
+    let n = formed (scaled (c .before)) in
+    let r = room (judged n) in
+    let some = r .is in
+    (omega arith, r .points-room, all-roundable _ _ _ _ (fine (judged n)) (n .numerators .ensures) (scale-is (c .before)) (r .is) (r .most))
 
 same-length : tie.Need-same-length
 same-length c = search needs
@@ -60,10 +80,13 @@ same-length-2 : tie.Need-same-length-2
 same-length-2 c = search needs
 
 returns-2 : tie.Need-returns-2
-unfolding requestOf
 returns-2 c =
-    let r = room (c .before .before .before .before .before .before .before .before .before .before .before) in
-    accepted-result (requestOf (c .before .before .before .before .before .before .before .before .before .before .before .before .before .before .args .form) (c .before .before .before .before .before .before .before .before .before .before .before .before .before .before .args .first) (c .before .before .before .before .before .before .before .before .before .before .before .before .before .before .args .second) (c .before .before .before .before .before .before .before .before .before .before .before .before .before .before .args .N) (c .before .before .before .before .before .before .before .before .before .before .before .before .before .before .args .surface .now) (c .before .before .before .before .before .before .before .before .before .before .before .before .before .before .args .path .now)) _ _ _ (fine (c .before .before .before .before .before .before .before .before .before .before .before)) (c .before .before .before .before .before .before .before .before .before .before .numerators .ensures) (c .before .before .before .scale .ensures ∙ ap (λ n. 1024 ^ n) (c .before .before .before .before .degree .ensures)) (r .is) _ _ _ _ (c .before .before .before .before .before .before .before .before .before .before .before .before .before .judge .ensures) refl _ _ (c .before .before .before .before .before .before .before .write-exact .ensures) (c .before .write-points .ensures)
+    let s = c .before .before .before in
+    let w = scaled s in
+    let n = formed w in
+    let j = judged n in
+    accepted-result (rq (begun j)) _ _ _ (fine j) (n .numerators .ensures) (scale-is s) (room j .is)
+    _ _ _ _ (j .before .before .judge .ensures) refl _ _ (w .write-exact .ensures) (c .before .write-points .ensures)
 
 pub compose-spec : {M : Type 1} → statement M
 compose-spec =

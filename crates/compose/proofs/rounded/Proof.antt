@@ -1,10 +1,6 @@
 -- `compose::rounded` meets its contract: the denominator fits, and the point is a travel. Assumes nothing.
-use mathlib.Core.Path.{_≡_, refl, sym, ap, _∙_}
-use Prim.Native.Nat.{ℕ, _*_, _^_, _≤_}
+use mathlib.Core.Path.{_≡_, _∙_}
 use native.Mathlib.Nat.{mul-le-mul, lt-of-le-of-lt}
-use native.Mathlib.Omega.{arith}
-use lib.IntN.{pos, natAbs}
-use lib.ListN.{getD}
 use lib.Dec.{lit<}
 use borrow.Author.Needs.{needs}
 use Rattle.whole.specs.Round.{nearest}

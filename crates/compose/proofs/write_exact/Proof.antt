@@ -1,11 +1,10 @@
 -- `compose::write_exact` meets its contract: the places passed are written, the others are still as they were.
 -- Assumes nothing.
 use mathlib.Core.Path.{_≡_, refl, sym, ap, _∙_}
-use Prim.Native.Nat.{ℕ, _-_, _≤_, _<_}
+use Prim.Native.Nat.{_-_, _≤_}
 use native.Mathlib.Omega.{arith}
 use lib.IntN.{pos}
 use lib.ListN.{length, getD, set, length-set}
-use borrow.Author.Needs.{needs}
 use Rattle.compose.specs.Afterwards.{afterwards}
 use Rattle.compose.proofs.Written.{afterwards-none, afterwards-more}
 use Rattle.compose.proofs.write_exact.Statement.{statement}

@@ -1,11 +1,9 @@
 -- `compose::write_points` meets its contract: the places passed are written, the others are still as they were.
 -- Assumes nothing.
 use mathlib.Core.Path.{_≡_, refl, sym, ap, _∙_}
-use Prim.Native.Nat.{ℕ, _-_, _≤_, _<_}
+use Prim.Native.Nat.{_-_, _≤_}
 use native.Mathlib.Omega.{arith}
-use lib.IntN.{pos}
-use lib.ListN.{length, getD, set, length-set}
-use borrow.Author.Needs.{needs}
+use lib.ListN.{length, set, length-set}
 use Rattle.compose.specs.Afterwards.{afterwards}
 use Rattle.compose.proofs.Written.{afterwards-none, afterwards-more}
 use Rattle.compose.specs.Contract.{roundedAt}

@@ -1,7 +1,7 @@
 -- `exports::lean_compose` meets its contract: the composer's own, with the answer in three words. Assumes nothing.
 use borrow.Author.Needs.{needs}
 use native.Mathlib.Omega.{arith}
-use Rattle.compose.specs.Contract.{requestOf}
+use Rattle.exports.specs.Exported.{requestOf}
 use Rattle.exports.proofs.Crossed.{untouched, answered}
 use Rattle.exports.proofs.lean_compose.Statement.{statement}
 use Rattle.exports.proofs.lean_compose.Tie as tie

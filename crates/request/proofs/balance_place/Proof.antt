@@ -1,6 +1,6 @@
 -- `request::balance_place` meets its contract: no point passed is uneven. Assumes nothing.
 use mathlib.Core.Path.{sym, _∙_}
-use Prim.Native.Nat.{ℕ, _+_, _-_}
+use Prim.Native.Nat.{_+_, _-_}
 use native.Mathlib.Omega.{arith}
 use Rattle.request.specs.Refusal.{uneven, balancePlace}
 use Rattle.request.proofs.Least.{Passed, none-passed, one-more, found, not-found}

@@ -1,5 +1,5 @@
 -- `request::not_kind` meets its contract: the definition's three tests, one after the other. Assumes nothing.
-use borrow.Author.Tests.{eq-eqb, ne-eqb}
+use borrow.Author.Tests.{ne-eqb}
 use Rattle.request.specs.Refusal.{notKind}
 use Rattle.request.proofs.not_kind.Statement.{statement}
 use Rattle.request.proofs.not_kind.Tie as tie

@@ -1,6 +1,6 @@
 -- `request::parameter_place` meets its contract: nothing passed is beyond its bounds. Assumes nothing.
 use mathlib.Core.Path.{_≡_, sym, ap, _∙_}
-use Prim.Native.Nat.{ℕ, _-_}
+use Prim.Native.Nat.{_-_}
 use lib.IntN.{pos}
 use lib.ListN.{length, getD}
 use native.Mathlib.Omega.{arith}

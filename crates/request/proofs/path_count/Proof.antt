@@ -1,5 +1,4 @@
 -- `request::path_count` meets its contract: it is the definition, form by form. Assumes nothing.
-use mathlib.Core.Path.{_≡_, sym, ap}
 use Prim.Native.Nat.{ℕ}
 use borrow.Author.Needs.{needs}
 use Rattle.request.specs.Head.{pathCount, numbers}

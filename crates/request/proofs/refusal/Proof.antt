@@ -1,6 +1,6 @@
 -- `request::refusal` meets its contract: it is the definition. Assumes nothing.
 use mathlib.Core.Path.{refl}
-use Rattle.request.specs.Refusal.{refused}
+use Rattle.request.specs.Cascade.{refused}
 use Rattle.request.proofs.refusal.Statement.{statement}
 use Rattle.request.proofs.refusal.Tie as tie
 

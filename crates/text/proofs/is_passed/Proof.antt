@@ -1,8 +1,13 @@
--- `text::is_passed` meets its contract: a line without bytes is blank. Assumes nothing.
+-- `text::is_passed` meets its contract: nothing, a `#`, or blanks to the end. Assumes nothing.
+use mathlib.Core.Path.{_≡_}
+use native.Mathlib.Nat.{zero-add}
+use lib.ListN.{getD}
 use borrow.Author.Tests.{eq-eqb, ne-eqb}
-use borrow.Author.Needs.{needs}
+use Rattle.text.specs.Words.{isBlank}
 use Rattle.text.specs.Line.{isPassed}
-use Rattle.text.proofs.Asks.{passed-empty}
+use Rattle.text.proofs.Runs.{run-all}
+use Rattle.text.proofs.Cases.{passed-empty}
+use borrow.Author.Needs.{needs}
 use Rattle.text.proofs.is_passed.Statement.{statement}
 use Rattle.text.proofs.is_passed.Tie as tie
 
@@ -14,15 +19,17 @@ shared-slice-read-if2 c = search needs
 
 returns-2 : tie.Need-returns-2
 unfolding isPassed
-returns-2 c = rw (eq-eqb _ _ (c .if2 .taken))
+returns-2 c =
+    let mark : getD (c .before .before .before .before .args .line .now) 0 0 ≡ 35 = c .if2 .taken in
+    rw (eq-eqb _ _ mark)
 
-is-empty-requires : tie.Need-is-empty-requires
-is-empty-requires c κs = search needs
+skip-requires : tie.Need-skip-requires
+skip-requires c κs = search needs
 
 returns-3 : tie.Need-returns-3
 unfolding isPassed
-returns-3 c = rw (ne-eqb _ _ (c .before .if2 .left)) (c .is-empty .ensures)
+returns-3 c = rw (ne-eqb _ _ (c .before .if2 .left), c .skip .ensures .is, zero-add) (run-all isBlank _)
 
 pub is-passed-spec : {M : Type 1} → statement M
 is-passed-spec =
-    tie.close (tie.spec returns shared-slice-read-if2 returns-2 is-empty-requires returns-3)
+    tie.close (tie.spec returns shared-slice-read-if2 returns-2 skip-requires returns-3)

@@ -1,8 +1,8 @@
 -- `units::size_of` meets its contract: a number below 0 is taken from 0, in 64 bits, where the difference fits.
 -- Assumes nothing.
-use mathlib.Core.Path.{_≡_, refl, subst}
+use mathlib.Core.Path.{_≡_, subst}
 use mathlib.Core.Bool.{true, false}
-use Prim.Native.Nat.{_≤_, _<_, _^_, suc}
+use Prim.Native.Nat.{_≤_, suc}
 use native.Mathlib.Nat.{le-suc, le-refl}
 use native.Mathlib.Omega.{arith}
 use lib.IntN.{ℤ, pos, negsuc, natAbs, _-ℤ_, +ℤ-idl}

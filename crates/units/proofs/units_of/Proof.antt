@@ -1,7 +1,7 @@
 -- `units::units_of` meets its contract: a 32-bit number fits 64 bits, and reading the bits back gives the number.
 -- Assumes nothing.
 use native.Mathlib.Omega.{arith}
-use mir.Syntax.{w32, w64}
+use mir.Syntax.{w32}
 use mir.Val.{SFits}
 use mir.Facts.{toZ-ofZ, sfits-widen}
 use Rattle.units.proofs.units_of.Statement.{statement}

@@ -1,24 +1,23 @@
--- `ask::input::take_all` is safe and ends: what is kept stays within the line, and the turns are counted down.
--- Assumes nothing.
+-- `ask::input::take_all` is safe and ends: its turns are counted down. Assumes nothing.
 use mathlib.Core.Path.{_≡_}
-use Prim.Native.Nat.{_≤_}
 use lib.ListN.{length}
 use native.Mathlib.Omega.{arith}
+use borrow.Author.Needs.{needs}
 use Rattle.ask.proofs.input.take_all.Statement.{statement}
 use Rattle.ask.proofs.input.take_all.Tie as tie
 
 abbrev Inv-loop : tie.InvT-loop
-Inv-loop fd name part₀ line₀ out₀ lines₀ turns₀ part line out lines turns =
-    (lines .kept ≤ length line) × (length part ≡ length part₀) × (length line ≡ length line₀) × (length out ≡ length out₀)
+Inv-loop fd name part₀ line₀ out₀ err₀ lines₀ turns₀ t11 part line out err lines turns =
+    (length part ≡ length part₀) × (length line ≡ length line₀) × (length out ≡ length out₀) × (length err ≡ length err₀)
 
 abbrev μ-loop : tie.MeasureT-loop
-μ-loop fd name part₀ line₀ out₀ lines₀ turns₀ part line out lines turns = turns
+μ-loop fd name part₀ line₀ out₀ err₀ lines₀ turns₀ t11 part line out err lines turns = turns
 
 loop-holds : tie.Need-loop-holds Inv-loop μ-loop
 loop-holds c = omega arith
 
 take-some-requires : tie.Need-take-some-requires Inv-loop μ-loop
-take-some-requires c κs = omega arith
+take-some-requires c κs = search needs
 
 sub-turns : tie.Need-sub-turns Inv-loop μ-loop
 sub-turns c = omega arith
@@ -35,8 +34,11 @@ loop-less-2 c = omega arith
 loop-again-2 : tie.Need-loop-again-2 Inv-loop μ-loop
 loop-again-2 c = omega arith
 
-take-last-requires : tie.Need-take-last-requires Inv-loop μ-loop
-take-last-requires c κs = omega arith
+slice-aggregate-take-part : tie.Need-slice-aggregate-take-part Inv-loop μ-loop
+slice-aggregate-take-part c = search needs
+
+take-part-requires : tie.Need-take-part-requires Inv-loop μ-loop
+take-part-requires c κs = search needs
 
 same-length : tie.Need-same-length Inv-loop μ-loop
 same-length c = omega arith
@@ -46,6 +48,9 @@ same-length-2 c = omega arith
 
 same-length-3 : tie.Need-same-length-3 Inv-loop μ-loop
 same-length-3 c = omega arith
+
+same-length-4 : tie.Need-same-length-4 Inv-loop μ-loop
+same-length-4 c = omega arith
 
 returns : tie.Need-returns Inv-loop μ-loop
 returns c = tt
@@ -63,8 +68,10 @@ take-all-spec =
     loop-again
     loop-less-2
     loop-again-2
-    take-last-requires
+    slice-aggregate-take-part
+    take-part-requires
     same-length
     same-length-2
     same-length-3
+    same-length-4
     returns)

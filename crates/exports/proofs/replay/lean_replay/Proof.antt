@@ -1,6 +1,6 @@
 -- `exports::replay::lean_replay` meets its contract: the replay's own numbers, in five words. Assumes nothing.
 use native.Mathlib.Omega.{arith}
-use Rattle.exports.proofs.Replaying.{no-room, wrote}
+use Rattle.exports.proofs.Crossed.{no-room, wrote}
 use borrow.Author.Needs.{needs}
 use Rattle.exports.proofs.replay.lean_replay.Statement.{statement}
 use Rattle.exports.proofs.replay.lean_replay.Tie as tie

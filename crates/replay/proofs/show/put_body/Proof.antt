@@ -6,7 +6,8 @@ use Rattle.door.proofs.Sizes.{surface-most, path-most}
 use Rattle.replay.proofs.show.put_body.Statement.{statement}
 use Rattle.replay.proofs.show.put_body.Tie as tie
 
-small : (c : tie.After-path-count) → c .before .before .before .args .from + 2 * c .before .surface-count .result + 2 * c .path-count .result < 1000
+small : (c : tie.After-path-count) → c .before .before .before .args .from + 2 * c .before .surface-count .result + 2 * c
+    .path-count .result < 1000
 small c =
     let call = c .before .before .before in
     omega (arith, call .pre .0, surface-most (call .args .head) (call .pre .1), path-most (call .args .head) (call .pre .1))

@@ -1,4 +1,4 @@
--- `replay::text::numbers` is safe and ends. Assumes nothing.
+-- `replay::text::numbers` meets its contract. Assumes nothing.
 use mathlib.Core.Path.{refl}
 use Prim.Native.Nat.{_-_}
 use native.Mathlib.Omega.{arith}
@@ -20,17 +20,17 @@ slice-aggregate-put c = refl
 put-requires : tie.Need-put-requires Inv-loop μ-loop
 put-requires c κs = tt
 
-mul-word-at : tie.Need-mul-word-at Inv-loop μ-loop
-mul-word-at c = omega arith
+mul-number-at : tie.Need-mul-number-at Inv-loop μ-loop
+mul-number-at c = omega arith
 
-add-word-at : tie.Need-add-word-at Inv-loop μ-loop
-add-word-at c = omega arith
+add-number-at : tie.Need-add-number-at Inv-loop μ-loop
+add-number-at c = omega arith
 
-word-at-requires : tie.Need-word-at-requires Inv-loop μ-loop
-word-at-requires c κs = omega arith
+number-at-requires : tie.Need-number-at-requires Inv-loop μ-loop
+number-at-requires c κs = tt
 
 signed-requires : tie.Need-signed-requires Inv-loop μ-loop
-signed-requires c κs = omega arith
+signed-requires c κs = tt
 
 add-i : tie.Need-add-i Inv-loop μ-loop
 add-i c = omega arith
@@ -53,9 +53,9 @@ numbers-spec =
     loop-holds
     slice-aggregate-put
     put-requires
-    mul-word-at
-    add-word-at
-    word-at-requires
+    mul-number-at
+    add-number-at
+    number-at-requires
     signed-requires
     add-i
     loop-less

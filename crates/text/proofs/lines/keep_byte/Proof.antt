@@ -1,8 +1,8 @@
--- `text::lines::keep_byte` meets its contract: the three cases of its definition. Assumes nothing.
+-- `text::lines::keep_byte` meets its contract: the cases of its definition. Assumes nothing.
 use mathlib.Core.Path.{sym, _∙_}
 use native.Mathlib.Omega.{arith}
 use borrow.Author.Needs.{needs}
-use Rattle.text.proofs.Keeping.{keeps-room, keeps-blank, keeps-full}
+use Rattle.text.proofs.Keeping.{keeps-room, keeps-none, keeps-blank, keeps-full}
 use Rattle.text.proofs.lines.keep_byte.Statement.{statement}
 use Rattle.text.proofs.lines.keep_byte.Tie as tie
 
@@ -16,7 +16,10 @@ same-length : tie.Need-same-length
 same-length c = search needs
 
 returns : tie.Need-returns
-returns c = keeps-room _ _ _ (c .if1 .taken)
+returns c = keeps-room _ _ _ (omega arith) (c .if1 .taken)
+
+returns-2 : tie.Need-returns-2
+returns-2 c = keeps-none _ _ _ (omega arith) (c .before .if1 .left) (c .if2 .taken)
 
 sub-last : tie.Need-sub-last
 sub-last c = search needs
@@ -33,11 +36,13 @@ slice-write-line-2 c = search needs
 same-length-2 : tie.Need-same-length-2
 same-length-2 c = search needs
 
-returns-2 : tie.Need-returns-2
-returns-2 c = keeps-blank _ _ _ (c .before .before .before .if1 .left) (omega arith) (sym (c .before .is-blank .ensures) ∙ c .if2 .taken)
-
 returns-3 : tie.Need-returns-3
-returns-3 c = keeps-full _ _ _ (c .before .before .before .if1 .left) (omega arith) (sym (c .before .is-blank .ensures) ∙ c .if2 .left)
+returns-3 c = keeps-blank _ _ _ (omega arith) (c .before .before .before .before .if1 .left) (sym (c .before .is-blank .ensures)
+    ∙ c .if3 .taken)
+
+returns-4 : tie.Need-returns-4
+returns-4 c = keeps-full _ _ _ (omega arith) (c .before .before .before .before .if1 .left) (sym (c .before .is-blank .ensures)
+    ∙ c .if3 .left)
 
 pub keep-byte-spec : {M : Type 1} → statement M
 keep-byte-spec =
@@ -47,10 +52,11 @@ keep-byte-spec =
     add-result
     same-length
     returns
+    returns-2
     sub-last
     slice-read-is-blank
     is-blank-requires
     slice-write-line-2
     same-length-2
-    returns-2
-    returns-3)
+    returns-3
+    returns-4)

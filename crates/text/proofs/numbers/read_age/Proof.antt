@@ -1,82 +1,128 @@
--- `text::numbers::read_age` meets its contract: no word is left, or a number with nothing after it. Assumes nothing.
-use mathlib.Core.Path.{sym, _∙_}
+-- `text::numbers::read_age` meets its contract: no word is left, the mark and a number, or a word left over. Assumes nothing.
+use mathlib.Core.Path.{_≡_, sym, _∙_}
+use mathlib.Core.Bool.{false}
+use Prim.Native.Nat.{_+_, _≤_}
 use native.Mathlib.Omega.{arith}
-use borrow.Author.Tests.{not-true, not-false}
+use borrow.Author.Tests.{eq-eqb, ne-eqb, not-true, not-false}
+use Rattle.text.specs.Words.{between, digitsWithin}
+use Rattle.text.specs.Line.{greatestAge, aged}
+use Rattle.text.proofs.Cases.{age-long, length-between}
 use borrow.Author.Needs.{needs}
-use Rattle.text.proofs.Runs.{rest-is}
-use Rattle.text.proofs.Steps.{age-none, age-wrong, age-more, age-given, natural-small}
 use Rattle.text.proofs.numbers.read_age.Statement.{statement}
 use Rattle.text.proofs.numbers.read_age.Tie as tie
 
-is-empty-requires : tie.Need-is-empty-requires
-is-empty-requires c κs = search needs
-
-of-age-requires : tie.Need-of-age-requires
-of-age-requires c κs = search needs
+-- a word that bears the mark has its four bytes
+long : (c : tie.Else3)
+    → c .before .before .before .before .next-word .result .start + 4 ≤ c .before .before .before .before .next-word .result .end
+long c =
+    let word = c .before .before .before .before in
+    let line = word .before .before .before .before .args .line .now in
+    let place = word .next-word .result in
+    omega (
+      arith,
+      length-between line (place .start) (place .end) (word .next-word .ensures .inside),
+      age-long (between line (place .start) (place .end)) (sym (c .before .is-age .ensures) ∙ not-false _ (c .if3 .left)),
+    )
 
 returns : tie.Need-returns
-returns c = rw (c .of-age .ensures) (age-none _ (sym (c .before .before .is-empty .ensures) ∙ c .before .if1 .taken))
+unfolding aged
+returns c = record { is = rw (ne-eqb _ _ (c .if1 .taken)); inside = c .before .before .before .pre }
 
-number-requires : tie.Need-number-requires
-number-requires c κs = search needs
-
-of-age-requires-2 : tie.Need-of-age-requires-2
-of-age-requires-2 c κs = search needs
+next-word-requires : tie.Need-next-word-requires
+next-word-requires c κs = search needs
 
 returns-2 : tie.Need-returns-2
+unfolding aged
 returns-2 c =
-    rw (c .of-age2 .ensures)
-    (age-wrong _ (sym (c .before .before .before .before .before .is-empty .ensures) ∙ c .before .before .before .before .if1 .left) _ (c .before .before .before .number .ensures) (c .before .if2 .taken))
+    let place = c .before .next-word .ensures in
+    record {
+      is = rw (eq-eqb _ _ (c .before .before .if1 .left), ← place .is, eq-eqb _ _ (c .if2 .taken));
+      inside = c .before .before .before .before .before .pre;
+    }
 
-sub-is-empty : tie.Need-sub-is-empty
-sub-is-empty c = search needs
+sub-is-age : tie.Need-sub-is-age
+sub-is-age c = search needs
 
-part-is-empty-start : tie.Need-part-is-empty-start
-part-is-empty-start c = search needs
+part-is-age-start : tie.Need-part-is-age-start
+part-is-age-start c = search needs
 
-part-is-empty-end : tie.Need-part-is-empty-end
-part-is-empty-end c = search needs
+part-is-age-end : tie.Need-part-is-age-end
+part-is-age-end c = search needs
 
-is-empty-requires-2 : tie.Need-is-empty-requires-2
-is-empty-requires-2 c κs = search needs
-
-of-age-requires-3 : tie.Need-of-age-requires-3
-of-age-requires-3 c κs = search needs
+is-age-requires : tie.Need-is-age-requires
+is-age-requires c κs = search needs
 
 returns-3 : tie.Need-returns-3
+unfolding aged
 returns-3 c =
-    rw (c .of-age3 .ensures)
-    (age-more _ (sym (c .before .before .before .before .before .before .before .before .is-empty .ensures) ∙ c .before .before .before .before .before .before .before .if1 .left) _ (c .before .before .before .before .before .before .number .ensures) (c .before .before .before .before .if2 .left)
-    (sym (rw rest-is at (c .before .before .is-empty2 .ensures)) ∙ not-true _ (c .before .if3 .taken)))
+    let place = c .before .before .before .before .next-word .ensures in
+    record {
+      is = rw (
+        eq-eqb _ _ (c .before .before .before .before .before .if1 .left),
+        ← place .is,
+        ne-eqb _ _ (c .before .before .before .if2 .left),
+        ← c .before .is-age .ensures,
+        not-true (c .before .is-age .result)
+            (c .if3 .taken),
+      );
+      inside = record { order = place .order; end = place .inside };
+    }
 
-cast-of-age : tie.Need-cast-of-age
-cast-of-age c = omega (arith, natural-small _ _ _ (c .before .before .before .before .before .before .number .ensures))
+add-digits : tie.Need-add-digits
+add-digits c = search needs
 
-of-age-requires-4 : tie.Need-of-age-requires-4
-of-age-requires-4 c κs = search needs
+sub-bounded : tie.Need-sub-bounded
+sub-bounded c = long c
+
+part-bounded-start : tie.Need-part-bounded-start
+part-bounded-start c = omega (arith, long c)
+
+part-bounded-end : tie.Need-part-bounded-end
+part-bounded-end c = search needs
+
+bounded-requires : tie.Need-bounded-requires
+bounded-requires c κs = search needs
+
+cast-t19 : tie.Need-cast-t19
+cast-t19 c = search needs
 
 returns-4 : tie.Need-returns-4
+unfolding aged
 returns-4 c =
-    rw (c .of-age4 .ensures)
-    (age-given _ (sym (c .before .before .before .before .before .before .before .before .before .is-empty .ensures) ∙ c .before .before .before .before .before .before .before .before .if1 .left) (c .before .before .before .before .before .before .before .number .result) (c .before .before .before .before .before .before .before .number .ensures) (c .before .before .before .before .before .if2 .left)
-    (sym (rw rest-is at (c .before .before .before .is-empty2 .ensures)) ∙ not-false _ (c .before .before .if3 .left)))
+    let told = c .before .before .before in
+    let word = told .before .before .before .before in
+    let line = word .before .before .before .before .args .line .now in
+    let place = word .next-word .result in
+    let found : c .before .bounded .result ≡ digitsWithin false (between line (place .start + 4) (place .end)) greatestAge = c .before .bounded .ensures .is in
+    record {
+      is =
+          rw (
+            eq-eqb _ _ (word .before .if1 .left),
+            ← word .next-word .ensures .is,
+            ne-eqb _ _ (told .before .before .before .if2 .left),
+            ← told .before .is-age .ensures,
+            not-false (told .before .is-age .result) (told .if3 .left),
+            ← found,
+          );
+      inside = record { order = word .next-word .ensures .order; end = word .next-word .ensures .inside };
+    }
 
 pub read-age-spec : {M : Type 1} → statement M
 read-age-spec =
     tie.close
     (tie.spec
-    is-empty-requires
-    of-age-requires
     returns
-    number-requires
-    of-age-requires-2
+    next-word-requires
     returns-2
-    sub-is-empty
-    part-is-empty-start
-    part-is-empty-end
-    is-empty-requires-2
-    of-age-requires-3
+    sub-is-age
+    part-is-age-start
+    part-is-age-end
+    is-age-requires
     returns-3
-    cast-of-age
-    of-age-requires-4
+    add-digits
+    sub-bounded
+    part-bounded-start
+    part-bounded-end
+    bounded-requires
+    cast-t19
     returns-4)

@@ -1,37 +1,26 @@
--- `text::numbers::read_head` meets its contract: two pairs, one after the other. Assumes nothing.
+-- `text::numbers::read_head` meets its contract: four numbers one after the other. Assumes nothing.
+use Rattle.text.specs.Line.{headed}
 use borrow.Author.Needs.{needs}
-use Rattle.text.proofs.Runs.{rest-is}
-use Rattle.text.proofs.Steps.{head-first, head-second, head-both}
 use Rattle.text.proofs.numbers.read_head.Statement.{statement}
 use Rattle.text.proofs.numbers.read_head.Tie as tie
 
-read-pair-requires : tie.Need-read-pair-requires
-read-pair-requires c κs = search needs
+natural-requires : tie.Need-natural-requires
+natural-requires c κs = search needs
 
-no-head-requires : tie.Need-no-head-requires
-no-head-requires c κs = search needs
+natural-requires-2 : tie.Need-natural-requires-2
+natural-requires-2 c κs = search needs
 
-returns : tie.Need-returns
-returns c = head-first _ _ (c .before .before .before .read-pair .ensures) _ (c .no-head .ensures) (c .before .if1 .taken)
+natural-requires-3 : tie.Need-natural-requires-3
+natural-requires-3 c κs = search needs
 
-sub-read-pair : tie.Need-sub-read-pair
-sub-read-pair c = search needs
+natural-requires-4 : tie.Need-natural-requires-4
+natural-requires-4 c κs = search needs
 
-part-read-pair-start : tie.Need-part-read-pair-start
-part-read-pair-start c = search needs
+cast-t8 : tie.Need-cast-t8
+cast-t8 c = search needs
 
-part-read-pair-end : tie.Need-part-read-pair-end
-part-read-pair-end c = search needs
-
-read-pair-requires-2 : tie.Need-read-pair-requires-2
-read-pair-requires-2 c κs = search needs
-
-no-head-requires-2 : tie.Need-no-head-requires-2
-no-head-requires-2 c κs = search needs
-
-returns-2 : tie.Need-returns-2
-returns-2 c =
-    head-second _ _ (c .before .before .before .before .before .before .before .read-pair .ensures) (c .before .before .before .before .before .if1 .left) _ (rw rest-is at (c .before .before .before .read-pair2 .ensures)) _ (c .no-head2 .ensures) (c .before .if2 .taken)
+cast-t9 : tie.Need-cast-t9
+cast-t9 c = search needs
 
 cast-t10 : tie.Need-cast-t10
 cast-t10 c = search needs
@@ -39,37 +28,26 @@ cast-t10 c = search needs
 cast-t11 : tie.Need-cast-t11
 cast-t11 c = search needs
 
-cast-t12 : tie.Need-cast-t12
-cast-t12 c = search needs
-
-cast-t13 : tie.Need-cast-t13
-cast-t13 c = search needs
-
-add-t7 : tie.Need-add-t7
-add-t7 c = search needs
-
-returns-3 : tie.Need-returns-3
-returns-3 c =
-    let a = c .before .before .before .before .before .before .before .before .before .before .before .read-pair in
-    let b = c .before .before .before .before .before .before .before .read-pair2 in
-    head-both _ (a .result) (a .ensures) (c .before .before .before .before .before .before .before .before .before .if1 .left) (b .result) (rw rest-is at (b .ensures)) (c .before .before .before .before .before .if2 .left)
+returns : tie.Need-returns
+unfolding headed
+returns c =
+    let all = c .before .before .before .before .before in
+    let N = all .natural4 .ensures in
+    let second = all .before .natural3 .ensures in
+    let first = all .before .before .natural2 .ensures in
+    let form = all .before .before .before .natural .ensures in
+    record { is = rw (← form .is, ← first .is, ← second .is, ← N .is); inside = N .inside }
 
 pub read-head-spec : {M : Type 1} → statement M
 read-head-spec =
     tie.close
     (tie.spec
-    read-pair-requires
-    no-head-requires
-    returns
-    sub-read-pair
-    part-read-pair-start
-    part-read-pair-end
-    read-pair-requires-2
-    no-head-requires-2
-    returns-2
+    natural-requires
+    natural-requires-2
+    natural-requires-3
+    natural-requires-4
+    cast-t8
+    cast-t9
     cast-t10
     cast-t11
-    cast-t12
-    cast-t13
-    add-t7
-    returns-3)
+    returns)

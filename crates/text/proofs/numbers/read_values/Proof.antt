@@ -1,44 +1,33 @@
 -- `text::numbers::read_values` meets its contract: the values so far lie at the front of the array. Assumes nothing.
-use Prim.Native.Nat.{_-_}
+use mathlib.Core.Path.{_≡_, refl, _∙_}
+use Prim.Native.Nat.{_-_, _≤_}
+use lib.Seq.{sets}
 use native.Mathlib.Omega.{arith}
-use Rattle.text.proofs.Runs.{rest-is}
-use Rattle.text.proofs.Steps.{Filled, filled-none, filled-all, filled-wrong, filled-more}
+use Rattle.text.specs.Line.{value, afterValues, values}
+use Rattle.text.specs.Read.{Inside}
+use Rattle.text.proofs.Cases.{values-next, values-put}
 use Rattle.text.proofs.numbers.read_values.Statement.{statement}
 use Rattle.text.proofs.numbers.read_values.Tie as tie
 
 abbrev Inv-loop : tie.InvT-loop
-Inv-loop s count out₀ next₀ k₀ out next k = Filled count s out₀ out next k
+Inv-loop line count out₀ cursor₀ k₀ out cursor k =
+    (k ≤ count) × (cursor ≡ afterValues line cursor₀ k) × Inside line cursor × (out ≡ sets out₀ 0 (values line cursor₀ k))
 
 abbrev μ-loop : tie.MeasureT-loop
-μ-loop s count out₀ next₀ k₀ out next k = count - k
+μ-loop line count out₀ cursor₀ k₀ out cursor k = count - k
 
 loop-holds : tie.Need-loop-holds Inv-loop μ-loop
-loop-holds c = filled-none _ _ _ (c .before .pre .1)
-
-sub-number : tie.Need-sub-number Inv-loop μ-loop
-sub-number c = omega arith
-
-part-number-start : tie.Need-part-number-start Inv-loop μ-loop
-part-number-start c = omega arith
-
-part-number-end : tie.Need-part-number-end Inv-loop μ-loop
-part-number-end c = omega arith
+unfolding afterValues values
+loop-holds c = (omega arith, refl, c .before .pre .0, refl)
 
 number-requires : tie.Need-number-requires Inv-loop μ-loop
-number-requires c κs = omega arith
-
-returns : tie.Need-returns Inv-loop μ-loop
-returns c =
-    filled-wrong _ _ _ _ _ _ (c .before .before .before .before .before .loop .inv) _ (rw rest-is at (c .before .before .number .ensures)) (c .before .before .before .before .loop-test .taken) (c .if1 .taken)
+number-requires c κs = (c .before .loop .inv .2, omega arith, omega arith)
 
 value-of-requires : tie.Need-value-of-requires Inv-loop μ-loop
-value-of-requires c κs = c .before .before .before .number .ensures .small
+value-of-requires c κs = c .before .number .ensures .small
 
 put-requires : tie.Need-put-requires Inv-loop μ-loop
 put-requires c κs = omega arith
-
-add-next : tie.Need-add-next Inv-loop μ-loop
-add-next c = omega arith
 
 add-k : tie.Need-add-k Inv-loop μ-loop
 add-k c = omega arith
@@ -47,13 +36,26 @@ loop-less : tie.Need-loop-less Inv-loop μ-loop
 loop-less c = omega arith
 
 loop-again : tie.Need-loop-again Inv-loop μ-loop
+unfolding value
 loop-again c =
-    let a = c .before .before .before .before .before .before .number in
-    rw (c .before .put .ensures, c .before .before .value-of .ensures)
-    (filled-more _ _ _ _ _ _ (c .before .before .before .before .before .before .before .before .before .loop .inv) (a .result) (rw rest-is at (a .ensures)) (c .before .before .before .before .before .before .before .before .loop-test .taken) (omega arith) (c .before .before .before .before .if1 .left))
+    let read = c .before .before .before .before in
+    let inv = read .before .before .loop .inv in
+    let is = read .number .ensures .is in (
+      omega arith,
+      values-next _ _ _ _ _ (inv .1) is,
+      read .number .ensures .inside,
+      rw (
+        c .before .put .ensures,
+        c .before .before .value-of .ensures,
+        inv .3,
+      ) (values-put _ _ _ _ _ (inv .1) is _),
+    )
 
-returns-2 : tie.Need-returns-2 Inv-loop μ-loop
-returns-2 c = filled-all _ _ _ _ _ _ (c .before .loop .inv) (c .loop-test .left)
+returns : tie.Need-returns Inv-loop μ-loop
+returns c =
+    let inv = c .before .loop .inv in
+    let k : c .before .loop .k ≡ c .before .before .before .args .count = omega arith in
+    record { is = inv .1 ∙ rw k; inside = inv .2; holds = inv .3 ∙ rw k }
 
 pub read-values-spec : {M : Type 1} → statement M
 read-values-spec =
@@ -62,15 +64,10 @@ read-values-spec =
     Inv-loop
     μ-loop
     loop-holds
-    sub-number
-    part-number-start
-    part-number-end
     number-requires
-    returns
     value-of-requires
     put-requires
-    add-next
     add-k
     loop-less
     loop-again
-    returns-2)
+    returns)

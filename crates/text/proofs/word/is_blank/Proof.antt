@@ -1,4 +1,4 @@
--- `text::word::is_blank` meets its contract: the definition's two tests. Assumes nothing.
+-- `text::word::is_blank` meets its contract: the definition's three tests. Assumes nothing.
 use borrow.Author.Tests.{eq-eqb, ne-eqb}
 use Rattle.text.specs.Words.{isBlank}
 use Rattle.text.proofs.word.is_blank.Statement.{statement}
@@ -10,7 +10,11 @@ returns c = rw (eq-eqb _ _ (c .if1 .taken))
 
 returns-2 : tie.Need-returns-2
 unfolding isBlank
-returns-2 c = rw (ne-eqb _ _ (c .if1 .left))
+returns-2 c = rw (ne-eqb _ _ (c .before .if1 .left), eq-eqb _ _ (c .if2 .taken))
+
+returns-3 : tie.Need-returns-3
+unfolding isBlank
+returns-3 c = rw (ne-eqb _ _ (c .before .if1 .left), ne-eqb _ _ (c .if2 .left))
 
 pub is-blank-spec : {M : Type 1} → statement M
-is-blank-spec = tie.close (tie.spec returns returns-2)
+is-blank-spec = tie.close (tie.spec returns returns-2 returns-3)

@@ -1,0 +1,69 @@
+-- What the answers' functions promise: every byte of the lent buffers, for every line and every part. Assumes nothing.
+use mathlib.Core.Path.{_≡_}
+use mathlib.Core.Bool.{cond}
+use mathlib.Core.List.{List, []}
+use Prim.Native.Nat.{ℕ, _+_, _≤_, min}
+use lib.Dec.{ltb}
+use lib.IntN.{ℤ}
+use lib.ListN.{length, take, drop}
+use lib.Seq.{sets}
+use Rattle.text.specs.Kept.{Cut, cutAt}
+use Rattle.text.specs.declared.Cursor.{Cursor}
+use Rattle.text.specs.declared.Reading.{Reading}
+use Rattle.spell.specs.Decimal.{Front}
+use Rattle.answers.specs.Answer.{replyOf, exactLent, pointsLent, answerOf, complaintOf}
+use Rattle.answers.specs.declared.lines.Lines.{Lines}
+use Rattle.answers.specs.declared.lines.Taken.{Taken}
+
+-- so many bytes are enough for every answer and every complaint
+abbrev pub room : ℕ
+room = 8192
+
+-- what was read, with its numbers at the front of two arrays, has an answer that fits
+pub record Fits (r : Reading) (surface path : List ℤ) (out : List ℕ) : Type 0 where
+  pub values : r .surface ≤ length surface
+  pub numbers : r .path ≤ length path
+  pub exact : r .rooms .exact ≤ 64
+  pub points : r .rooms .points ≤ 64
+  pub enough : 4096 ≤ length out
+
+-- its answer line
+unfoldable pub lineIn : Reading → List ℤ → List ℤ → List ℕ
+lineIn r surface path =
+    replyOf (record { head = r .head; surface = take (r .surface) surface; path = take (r .path) path }) (r .age) (r .rooms .given)
+    (exactLent (r .rooms .exact)) (pointsLent (r .rooms .points))
+
+-- the word at a cursor can be quoted
+pub record Quotable (line : List ℕ) (c : Cursor) : Type 0 where
+  pub order : c .start ≤ c .end
+  pub inside : c .end ≤ length line
+  pub short : c .end ≤ 4096
+
+-- an answer and a complaint were written to the front of two buffers, up to ends within them
+pub record Says (answer complaint out err out′ err′ : List ℕ) (m n : ℕ) : Type 0 where
+  pub answered : Front answer out out′ m
+  pub complained : Front complaint err err′ n
+  pub answer-fits : m ≤ length out
+  pub complaint-fits : n ≤ length err
+
+-- nothing is written unless both buffers are large enough
+unfoldable pub enough : List ℕ → List ℕ → List ℕ → List ℕ
+enough out err bytes = cond (ltb (length out) room) [] (cond (ltb (length err) room) [] bytes)
+
+-- the line after a line; the greatest number stays
+unfoldable pub nextRow : ℕ → ℕ
+nextRow row = min (row + 1) 18446744073709551615
+
+-- what a part, cut at its next newline, gives: the line that ended is answered, and the next one begins
+pub record Gives (c : Cut) (at row : ℕ) (line out err line′ out′ err′ : List ℕ) (r : Taken) : Type 0 where
+  pub next : r .at ≡ at + c .read
+  pub kept : r .lines .kept ≡ cond (c .ended) 0 (length (c .kept))
+  pub row-is : r .lines .row ≡ cond (c .ended) (nextRow row) row
+  pub holds : line′ ≡ sets line 0 (c .kept)
+  pub says : Says (cond (c .ended) (enough out err (answerOf (c .kept))) []) (cond (c .ended)
+      (enough out err (complaintOf row (c .kept))) []) out err out′ err′ (r .answer) (r .complaint)
+
+-- the part from `at` on was taken
+abbrev pub Takes : (part : List ℕ) (at : ℕ) (l : Lines) (line out err line′ out′ err′ : List ℕ) (r : Taken) → Type 0
+Takes part at l line out err line′ out′ err′ r =
+    Gives (cutAt (length line) (take (l .kept) line) (drop at part)) at (l .row) line out err line′ out′ err′ r

@@ -1,2 +1,0 @@
--- What the program's functions ask of each other. Assumes nothing.
-pub mod Fits

@@ -1,0 +1,2 @@
+-- Laws of a night's reading. Assumes nothing.
+pub mod Parts

@@ -1,0 +1,51 @@
+-- `night::tell` meets its contract. Assumes nothing.
+use native.Mathlib.Omega.{arith}
+use lib.ListN.{length-take}
+use borrow.Author.Needs.{needs}
+use Rattle.night.proofs.tell.Statement.{statement}
+use Rattle.night.proofs.tell.Tie as tie
+
+slice-aggregate-write-named : tie.Need-slice-aggregate-write-named
+slice-aggregate-write-named c = search needs
+
+finish-requires : tie.Need-finish-requires
+finish-requires c κs = search needs
+
+slice-aggregate-write-named-2 : tie.Need-slice-aggregate-write-named-2
+slice-aggregate-write-named-2 c = search needs
+
+write-named-requires : tie.Need-write-named-requires
+write-named-requires c κs = search needs
+
+array-share-prefix-out : tie.Need-array-share-prefix-out
+array-share-prefix-out c = search needs
+
+slice-aggregate-write-all : tie.Need-slice-aggregate-write-all
+slice-aggregate-write-all c = simp length-take (omega arith)
+
+write-all-requires : tie.Need-write-all-requires
+write-all-requires c κs = search needs
+
+returns : tie.Need-returns
+returns c = search needs
+
+returns-2 : tie.Need-returns-2
+returns-2 c = search needs
+
+returns-3 : tie.Need-returns-3
+returns-3 c = search needs
+
+pub tell-spec : {M : Type 1} → statement M
+tell-spec =
+    tie.close
+    (tie.spec
+    slice-aggregate-write-named
+    finish-requires
+    slice-aggregate-write-named-2
+    write-named-requires
+    array-share-prefix-out
+    slice-aggregate-write-all
+    write-all-requires
+    returns
+    returns-2
+    returns-3)

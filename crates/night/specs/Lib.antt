@@ -1,0 +1,2 @@
+-- What the reading of a night promises. Assumes nothing.
+pub mod Reading

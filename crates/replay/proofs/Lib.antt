@@ -1,0 +1,2 @@
+-- Laws of the numbers that are shown. Assumes nothing.
+pub mod Shown

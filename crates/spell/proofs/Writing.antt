@@ -1,0 +1,116 @@
+-- Laws of writing one thing after another into a buffer. Assumes nothing.
+use mathlib.Core.Path.{_≡_, refl, sym, ap, _∙_, subst}
+use mathlib.Core.List.{List, [], _∷_, _++_, append-assoc, append-nil}
+use Prim.Native.Nat.{ℕ, suc, _+_, _*_, _≤_, _<_}
+use native.Mathlib.Nat.{add-zero, zero-add}
+use native.Mathlib.Numerals.{add-one}
+use native.Mathlib.Omega.{arith}
+use lib.IntN.{ℤ, pos}
+use lib.ListN.{length, getD, take, drop, set, length-append, length-set}
+use lib.Seq.{sets, sets-eq, take-all, take-at, take-suc}
+use Rattle.spell.specs.Decimal.{decimal, spaced, Front, Written}
+
+-- stores one after the other, and one more after a run of them
+module _ {A : Type 0} where
+  pub sets-append : (l : List A) (i : ℕ) (a b : List A) → sets (sets l i a) (i + length a) b ≡ sets l i (a ++ b)
+  sets-append l i [] b = rw add-zero
+  sets-append l i (v ∷ a) b =
+      let e : i + suc (length a) ≡ suc i + length a = omega arith in
+      rw e (sets-append (set l i v) (suc i) a b)
+
+  pub sets-more : (l : List A) (i : ℕ) (vs : List A) (v : A) → sets l i (vs ++ (v ∷ [])) ≡ set (sets l i vs) (i + length vs) v
+  sets-more l i vs v = sym (sets-append l i vs (v ∷ []))
+
+  -- values at the front of a list
+  pub front : (l k : List A) → length k ≤ length l → sets l 0 k ≡ k ++ drop (length k) l
+  front l k m = sets-eq k l 0 (omega arith) ∙ rw (zero-add (length k))
+
+  pub front-read : (l k : List A) → length k ≤ length l → take (length k) (sets l 0 k) ≡ k
+  front-read l k m = rw (front l k m) (take-at k _ (length k) refl)
+
+-- what was written from the first place on stands at the front
+pub written-front : (most : ℕ) (l a m : List ℕ) (j : ℕ) → Written most l 0 a m j → Front a l m j
+written-front most l a m j w = record { ends = omega (arith, w .ends); holds = w .holds }
+
+module _ (most : ℕ) (l : List ℕ) (i : ℕ) (a : List ℕ) (m : List ℕ) (j : ℕ) where
+  -- no bytes
+  pub written-none : Written 0 l i [] l i
+  written-none = record { ends = omega arith; holds = refl; small = omega arith }
+
+  -- one byte before them
+  pub written-first : (v : ℕ) → Written most (set l i v) (i + 1) a m j → Written (1 + most) l i (v ∷ a) m j
+  written-first v w = record { ends = omega (arith, w .ends); holds = rw add-one at (w .holds); small = omega (arith, w .small) }
+
+  -- a bound that is larger
+  pub written-within : Written most l i a m j → (more : ℕ) → most ≤ more → Written more l i a m j
+  written-within w more h = record { ends = w .ends; holds = w .holds; small = omega (arith, w .small) }
+
+  -- other bytes after them
+  pub written-then : (other : ℕ) (b : List ℕ) (n : List ℕ) (k : ℕ) → Written most l i a m j → Written other m j b n k
+      → Written (most + other) l i (a ++ b) n k
+  written-then other b n k w x = record {
+    ends = omega (arith, w .ends, x .ends, length-append a b);
+    holds = x .holds ∙ rw (w .holds, w .ends) (sets-append l i a b);
+    small = omega (arith, w .small, x .small);
+  }
+
+spaced-append : (a b : List ℤ) → spaced (a ++ b) ≡ spaced a ++ spaced b
+unfolding spaced
+spaced-append [] b = refl
+spaced-append (z ∷ a) b = ap (λ s. 32 ∷ s) (rw (spaced-append a b) (sym (append-assoc (decimal z) (spaced a) (spaced b))))
+
+pub spaced-more : (l : List ℤ) (k : ℕ) → k < length l → spaced (take (k + 1) l) ≡ spaced (take k l) ++ 32 ∷ decimal (getD l k (pos 0))
+unfolding spaced
+spaced-more l k h =
+    rw (add-one k, take-suc l k (pos 0) h) (spaced-append (take k l) _ ∙ rw append-nil)
+
+-- a loop over bytes: k of them are written
+pub record Copying (s : List ℕ) (l : List ℕ) (i : ℕ) (m : List ℕ) (k : ℕ) : Type 0 where
+  pub upto : k ≤ length s
+  pub size : length m ≡ length l
+  pub so-far : Written k l i (take k s) m (i + k)
+
+pub copying-none : (s : List ℕ) (l : List ℕ) (i : ℕ) → Copying s l i l 0
+copying-none s l i = record { upto = omega arith; size = refl; so-far = rw add-zero (written-none 0 l i [] l i) }
+
+module _ (s : List ℕ) (l : List ℕ) (i : ℕ) (m : List ℕ) (k : ℕ) (c : Copying s l i m k) where
+  pub copying-more : k < length s → Copying s l i (set m (i + k) (getD s k 0)) (k + 1)
+  copying-more h = record {
+    upto = omega arith;
+    size = length-set m (i + k) _ ∙ c .size;
+    so-far =
+        let e : i + (k + 1) ≡ i + k + 1 = omega arith in
+        rw (e, add-one k, take-suc s k 0 h, ← add-one k)
+        (written-then k l i (take k s) m (i + k) 1 _ _ _ (c .so-far) (written-first 0 m (i + k) [] _ _ _ (written-none 0 _ _ [] l 0)));
+  }
+
+  pub copying-all : length s ≤ k → Written (length s) l i s m (i + k)
+  copying-all h =
+      let e : k ≡ length s = omega arith in
+      rw (← e) (subst (λ t. Written k l i t m (i + k)) (take-all k s (omega arith)) (c .so-far))
+
+-- a loop over numbers: k of them are written, up to a place
+pub record Listing (s : List ℤ) (l : List ℕ) (i : ℕ) (m : List ℕ) (j k : ℕ) : Type 0 where
+  pub upto : k ≤ length s
+  pub size : length m ≡ length l
+  pub so-far : Written (21 * k) l i (spaced (take k s)) m j
+
+pub listing-none : (s : List ℤ) (l : List ℕ) (i : ℕ) → Listing s l i l i 0
+unfolding spaced
+listing-none s l i = record { upto = omega arith; size = refl; so-far = written-none 0 l i [] l i }
+
+module _ (s : List ℤ) (l : List ℕ) (i : ℕ) (m : List ℕ) (j k : ℕ) (c : Listing s l i m j k) where
+  pub listing-more : k < length s → (n : List ℕ) (e : ℕ) → length n ≡ length m
+      → Written 21 m j (32 ∷ decimal (getD s k (pos 0))) n e → Listing s l i n e (k + 1)
+  listing-more h n e z w = record {
+    upto = omega arith;
+    size = z ∙ c .size;
+    so-far =
+        let q : 21 * (k + 1) ≡ 21 * k + 21 = omega arith in
+        rw (q, spaced-more s k h) (written-then (21 * k) l i _ m j 21 _ n e (c .so-far) w);
+  }
+
+  pub listing-all : length s ≤ k → Written (21 * length s) l i (spaced s) m j
+  listing-all h =
+      let e : k ≡ length s = omega arith in
+      rw (← e) (subst (λ t. Written (21 * k) l i (spaced t) m j) (take-all k s (omega arith)) (c .so-far))

@@ -1,0 +1,53 @@
+-- What the contracts promise: each leaves no choice; parts one after the other make the reader that the uncut trace makes;
+-- and its five numbers are those of the whole trace. Assumes nothing.
+use mathlib.Core.Path.{_≡_, sym, ap, _∙_}
+use mathlib.Core.List.{List, []}
+use Prim.Native.Nat.{ℕ}
+use Rattle.whole.proofs.Determined.{Determined}
+use Rattle.trace.specs.Parts.{uncut}
+use Rattle.tally.specs.declared.Five.{Five}
+use Rattle.tally.specs.declared.Reader.{Reader}
+use Rattle.tally.specs.Replay.{replayed}
+use Rattle.tally.specs.Read.{blankReader, afterPart, afterParts, fiveIn}
+use Rattle.tally.specs.Lines.{Told}
+use Rattle.tally.proofs.Reading.{numbers-of, begun, after-more, after-all}
+
+-- ---- the contracts fix their results
+
+pub new-determined : Determined (λ (r : Reader). r ≡ blankReader)
+new-determined = record { value = _; only = λ r e. e }
+
+pub take-determined : (reader : Reader) (part : List ℕ) → Determined (λ (r : Reader). r ≡ afterPart reader part)
+take-determined reader part = record { value = _; only = λ r e. e }
+
+pub finish-determined : (reader : Reader) → Determined (λ (r : Five). r ≡ fiveIn reader)
+finish-determined reader = record { value = _; only = λ r e. e }
+
+pub replay-determined : (bytes : List ℕ) → Determined (λ (r : Five). r ≡ replayed bytes)
+replay-determined bytes = record { value = _; only = λ r e. e }
+
+-- how many bytes were written, and the buffer
+pub record Wrote : Type 0 where
+  pub count : ℕ
+  pub out : List ℕ
+
+pub write-determined : (five : Five) (out : List ℕ) → Determined (λ (r : Wrote). Told five out (r .count) (r .out))
+write-determined five out = record { value = record { count = _; out = _ }; only = λ r t. both (t .counted) (t .written) }
+  where
+    both : {r : Wrote} {m : ℕ} {l : List ℕ} → r .count ≡ m → r .out ≡ l → r ≡ record { count = m; out = l }
+    both e f = rw (← e, ← f)
+
+-- ---- parts and the whole
+
+-- "after the last, state and sheet are those of the uncut trace": the state
+pub same-reader : (parts : List (List ℕ)) → afterParts blankReader parts ≡ afterPart blankReader (uncut parts)
+same-reader parts =
+    ap (λ (r : Reader). afterParts r parts) begun
+    ∙ after-all [] parts
+    ∙ sym (after-more [] (uncut parts))
+    ∙ ap (λ (r : Reader). afterPart r (uncut parts)) (sym begun)
+
+-- and the five numbers
+pub five-of-parts : (parts : List (List ℕ)) → fiveIn (afterParts blankReader parts) ≡ replayed (uncut parts)
+five-of-parts parts = ap (λ (r : Reader). fiveIn (afterParts r parts)) begun ∙ ap fiveIn (after-all [] parts)
+    ∙ numbers-of (uncut parts)
