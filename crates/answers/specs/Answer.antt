@@ -12,7 +12,6 @@ use Rattle.compose.specs.Afterwards.{exactAfter, pointsAfter}
 use Rattle.text.specs.Words.{notNumber, outside, tooFew, leftOver, between}
 use Rattle.text.specs.Line.{Said, said, isPassed}
 use Rattle.text.specs.declared.Cursor.{Cursor}
-use Rattle.text.specs.declared.Reading.{Reading}
 use Rattle.spell.specs.Decimal.{digits, answerLine}
 
 -- how many places of an array are shown: all where the line gives rooms, else those that the answer counts

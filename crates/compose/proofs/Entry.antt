@@ -2,34 +2,25 @@
 -- points. Assumes nothing.
 use mathlib.Core.Path.{_≡_, sym, ap, _∙_}
 use mathlib.Core.List.{List}
-use Prim.Native.Nat.{ℕ, zero, suc, _+_, _*_, _-_, _^_, _≤_, _<_}
-use native.Mathlib.Nat.{mul-le-mul}
+use Prim.Native.Nat.{ℕ, _+_, _*_, _-_, _≤_}
 use native.Mathlib.Omega.{arith}
 use lib.IntN.{ℤ, pos}
-use lib.Dec.{lit≤}
 use lib.ListN.{length, getD}
 use borrow.Author.Tests.{ltb-false}
 use Rattle.request.specs.declared.Answer.{Answer}
-use Rattle.request.specs.Head.{degree, longest}
+use Rattle.request.specs.Head.{mostDegree, mostN, mostPoints, degree, longest}
 use Rattle.request.specs.Request.{Request}
 use Rattle.request.specs.Refusal.{answer, accepted, valuePlace, parameterPlace, balancePlace, notValue, notParameter, notBalance, notRoom}
-use Rattle.request.proofs.Forms.{small, degree-most, at-triangle, or-none}
+use Rattle.request.proofs.Forms.{degree-most, longest-most, at-triangle, or-none}
 use Rattle.request.proofs.Bounds.{parameter-most, value-most, balance-most}
 use Rattle.request.proofs.Accepted.{Accepted, accepts, refusal-empty}
 use Rattle.net.specs.Composed.{numerator, denominator, point}
-use Rattle.net.specs.Loaded.{Composable, Numerators}
-use Rattle.net.proofs.Bounds.{point-size}
+use Rattle.net.specs.Sizes.{Composable}
+use Rattle.net.proofs.Bounds.{numerator-size}
+use Rattle.sums.specs.Contract.{Numerators}
 use Rattle.compose.specs.Afterwards.{afterwards, exactAfter, pointsAfter}
-use Rattle.compose.specs.Contract.{Composed, roundedAt, AllRoundable}
+use Rattle.compose.specs.Contract.{Composed, roundedAt, PointsAt}
 use Rattle.compose.proofs.Written.{afterwards-none, afterwards-same}
-
-scale-most : (r : ℕ) → r ≤ 4 → 1024 ^ r ≤ 1024 ^ 4
-scale-most zero m = lit≤ tt
-scale-most (suc zero) m = lit≤ tt
-scale-most (suc (suc zero)) m = lit≤ tt
-scale-most (suc (suc (suc zero))) m = lit≤ tt
-scale-most (suc (suc (suc (suc zero)))) m = lit≤ tt
-scale-most (suc (suc (suc (suc (suc r))))) m = absurd (omega arith)
 
 -- a refusal leaves everything as it was
 pub refused-result : (rq : Request) (age : ℕ) (exact points : List ℤ) (a : Answer) → a ≡ answer rq age (length exact) (length points) → (a .number ≡ 0 → ⊥)
@@ -59,7 +50,7 @@ composable rq age e p f =
 
 pub record Room (rq : Request) (e p count : ℕ) : Type 0 where
   pub is : count ≡ longest (rq .head) + 1
-  pub most : count ≤ 13
+  pub most : count ≤ mostPoints
   pub exact-room : count ≤ e
   pub points-room : count ≤ p
 
@@ -68,35 +59,38 @@ unfolding accepted notRoom longest
 room-for rq age e p a eq number =
     let f = accepts rq age e p (ap (λ (b : Answer). b .number) (sym eq) ∙ number) in
     let is : a .count ≡ degree (rq .head) * rq .head .N + 1 = ap (λ (b : Answer). b .count) (eq ∙ f .answered) in
-    let L : degree (rq .head) * rq .head .N ≤ 4 * 3 = mul-le-mul (degree-most (rq .head) (f .degrees)) (small (rq .head) (f .degrees) .N-most) in
+    let L : longest (rq .head) ≤ mostDegree * mostN = longest-most (rq .head) (f .degrees) in
     let r = or-none _ _ (f .room) in
     let x : longest (rq .head) + 1 ≤ e = ltb-false _ _ (r .0) in
     let y : longest (rq .head) + 1 ≤ p = ltb-false _ _ (r .1) in
     record { is = is; most = omega arith; exact-room = omega arith; points-room = omega arith }
 
-module _ (rq : Request) (nums : List ℤ) (scale count : ℕ) (fine : Composable rq) (n : Numerators rq nums) (s : scale ≡ 1024 ^ degree (rq .head)) (c : count ≡ longest (rq .head) + 1) where
-  -- what is rounded is the rounded point
-  rounds : (R : ℕ) → R < count → roundedAt nums (count - 1) scale R ≡ point rq R
-  unfolding roundedAt point denominator
-  rounds R m =
-      let l : count - 1 ≡ longest (rq .head) = omega arith in
-      rw (n .each R (omega arith), l, s)
+module _ (rq : Request) (nums : List ℤ) (r count : ℕ) (fine : Composable rq) (n : Numerators rq nums) (s : r ≡ degree (rq .head)) (c : count ≡ longest (rq .head) + 1) where
+  -- L, as the count has it
+  L : count - 1 ≡ longest (rq .head)
+  L = omega arith
 
-  pub all-roundable : count ≤ 13 → AllRoundable nums count scale
-  all-roundable m = record {
+  -- what is rounded is the rounded point
+  rounds : (R : ℕ) → roundedAt nums (count - 1) r R ≡ point rq R
+  unfolding roundedAt point denominator
+  rounds R = rw (n .each R, L, s)
+
+  pub points-at : count ≤ mostPoints → PointsAt nums count r
+  unfolding denominator
+  points-at m = record {
     row = m;
-    few = rw s (scale-most (degree (rq .head)) (degree-most (rq .head) (fine .small)));
-    most = λ R l. rw (rounds R l) (point-size rq fine R (omega arith));
+    few = rw s (degree-most (rq .head) (fine .small));
+    within = λ R l. rw (n .each R, L, s) (numerator-size rq fine R);
   }
 
   pub accepted-result : (age : ℕ) (exact points : List ℤ) (a : Answer) → a ≡ answer rq age (length exact) (length points) → a .count ≡ count → (exact′ points′ : List ℤ)
-      → exact′ ≡ afterwards count (λ R. getD nums R (pos 0)) exact → points′ ≡ afterwards count (roundedAt nums (count - 1) scale) points
+      → exact′ ≡ afterwards count (λ R. getD nums R (pos 0)) exact → points′ ≡ afterwards count (roundedAt nums (count - 1) r) points
       → Composed rq age exact points a exact′ points′
   unfolding exactAfter pointsAfter
   accepted-result age exact points a e k exact′ points′ f g =
       let t : answer rq age (length exact) (length points) .count ≡ count = ap (λ (b : Answer). b .count) (sym e) ∙ k in
       record {
         answered = e;
-        exact-is = f ∙ afterwards-same count _ (numerator rq) exact (λ R m. n .each R (omega arith)) ∙ ap (λ i. afterwards i (numerator rq) exact) (sym t);
-        points-is = g ∙ afterwards-same count _ (point rq) points rounds ∙ ap (λ i. afterwards i (point rq) points) (sym t);
+        exact-is = f ∙ afterwards-same count _ (numerator rq) exact (λ R m. n .each R) ∙ ap (λ i. afterwards i (numerator rq) exact) (sym t);
+        points-is = g ∙ afterwards-same count _ (point rq) points (λ R m. rounds R) ∙ ap (λ i. afterwards i (point rq) points) (sym t);
       }

@@ -8,6 +8,7 @@ use lib.ListN.{length, getD}
 use Rattle.whole.specs.Choose.{choose}
 use Rattle.whole.specs.Round.{nearest}
 use Rattle.request.specs.declared.Answer.{Answer}
+use Rattle.request.specs.Head.{mostDegree, mostN, mostPoints}
 use Rattle.request.specs.Request.{Request}
 use Rattle.request.specs.Refusal.{answer}
 use Rattle.compose.specs.Afterwards.{exactAfter, pointsAfter}
@@ -18,18 +19,18 @@ pub record Composed (rq : Request) (age : ℕ) (exact points : List ℤ) (a : An
   pub exact-is : exact′ ≡ exactAfter rq age exact points
   pub points-is : points′ ≡ pointsAfter rq age exact points
 
--- numerator R over binomial(L, R) times the scale, rounded
+-- numerator R over binomial(L, R)·1024^r, rounded
 unfoldable pub roundedAt : List ℤ → ℕ → ℕ → ℕ → ℤ
-roundedAt from L scale R = nearest (getD from R (pos 0)) (choose L R * scale)
+roundedAt from L r R = nearest (getD from R (pos 0)) (choose L R * 1024 ^ r)
 
--- when that is a travel
-pub record Roundable (from : List ℤ) (L scale R : ℕ) : Type 0 where
-  pub row : L ≤ 12
+-- when that is a travel: the numerator is at most its denominator times the greatest travel
+pub record PointAt (from : List ℤ) (L r R : ℕ) : Type 0 where
+  pub row : L ≤ mostDegree * mostN
   pub here : R ≤ L
-  pub few : scale ≤ 1024 ^ 4
-  pub most : natAbs (roundedAt from L scale R) ≤ 4096
+  pub few : r ≤ mostDegree
+  pub within : natAbs (getD from R (pos 0)) ≤ choose L R * 1024 ^ r * 4096
 
-pub record AllRoundable (from : List ℤ) (count scale : ℕ) : Type 0 where
-  pub row : count ≤ 13
-  pub few : scale ≤ 1024 ^ 4
-  pub most : (R : ℕ) → R < count → natAbs (roundedAt from (count - 1) scale R) ≤ 4096
+pub record PointsAt (from : List ℤ) (count r : ℕ) : Type 0 where
+  pub row : count ≤ mostPoints
+  pub few : r ≤ mostDegree
+  pub within : (R : ℕ) → R < count → natAbs (getD from R (pos 0)) ≤ choose (count - 1) R * 1024 ^ r * 4096

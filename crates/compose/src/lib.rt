@@ -1,11 +1,12 @@
 // The lean curve composer: document 01's public entry. A request is judged whole before anything is written; an accepted
 // one has its exact numerators and its rounded points written to the two lent arrays.
 ghost use mathlib.Core.Path.{_≡_};
-ghost use Prim.Native.Nat.{_+_, _*_, _-_, _^_, _≤_, _<_};
+ghost use Prim.Native.Nat.{_-_, _≤_, _<_};
 ghost use lib.IntN.{pos};
 ghost use lib.ListN.{length, getD, set};
+ghost use Rattle.pascal.specs.Entry.{Pascal};
 ghost use Rattle.compose.specs.Afterwards.{afterwards};
-ghost use Rattle.compose.specs.Contract.{Composed, roundedAt, Roundable, AllRoundable};
+ghost use Rattle.compose.specs.Contract.{Composed, roundedAt, PointAt, PointsAt};
 use request::Answer;
 use request::Head;
 use units::Age;
@@ -36,33 +37,13 @@ fn put_point(points: &mut [i32], R: usize, t: Travel)
     points[R] = v;
 }
 
-// 1024^r
-fn scale(r: usize) -> u64
-    requires { ⌜ r ≤ 4 ⌝ }
-    ensures { λ s. ⌜ s ≡ 1024 ^ r ⌝ }
+// The rounded point at R of a curve of degree L whose numerators are over binomial(L, R)·1024^r.
+fn rounded(table: &[u32; 91], from: &[i64; 13], L: usize, r: usize, R: usize) -> Travel
+    requires { ⌜ Pascal (now table) × PointAt (now from) L r R ⌝ }
+    ensures { λ t. ⌜ t .0 ≡ roundedAt (now (from .entry)) L r R ⌝ }
 {
-    if r == 0 {
-        return 1;
-    }
-    if r == 1 {
-        return 1024;
-    }
-    if r == 2 {
-        return 1048576;
-    }
-    if r == 3 {
-        return 1073741824;
-    }
-    1099511627776
-}
-
-// The rounded point at R of a curve of degree L whose numerators are over binomial(L, R) times `scale`.
-fn rounded(from: &[i64; 13], L: usize, scale: u64, R: usize) -> Travel
-    requires { ⌜ Roundable (now from) L scale R ⌝ }
-    ensures { λ t. ⌜ t .0 ≡ roundedAt (now (from .entry)) L scale R ⌝ }
-{
-    let d = pascal::binomial(L, R) * scale;
-    units::travel_of(whole::nearest(numerator_at(from, R), d))
+    let d = pascal::binomial(table, L, R);
+    units::travel_of(limbs::rounded(numerator_at(from, R), d, r))
 }
 
 // Writes the first `count` numerators.
@@ -78,13 +59,13 @@ fn write_exact(from: &[i64; 13], count: usize, exact: &mut [i64])
 }
 
 // Writes the first `count` points, rounded.
-fn write_points(from: &[i64; 13], scale: u64, count: usize, points: &mut [i32])
-    requires { ⌜ (0 < count) × (count ≤ length (now points)) × AllRoundable (now from) count scale ⌝ }
-    ensures { λ _. ⌜ now (points .exit) ≡ afterwards count (roundedAt (now (from .entry)) (count - 1) scale) (now (points .entry)) ⌝ }
+fn write_points(table: &[u32; 91], from: &[i64; 13], r: usize, count: usize, points: &mut [i32])
+    requires { ⌜ Pascal (now table) × (0 < count) × (count ≤ length (now points)) × PointsAt (now from) count r ⌝ }
+    ensures { λ _. ⌜ now (points .exit) ≡ afterwards count (roundedAt (now (from .entry)) (count - 1) r) (now (points .entry)) ⌝ }
 {
     let mut R = 0;
     while R < count {
-        put_point(points, R, rounded(from, count - 1, scale, R));
+        put_point(points, R, rounded(table, from, count - 1, r, R));
         R += 1;
     }
 }
@@ -107,13 +88,10 @@ pub fn compose(
         return answer;
     }
     let count = answer.count;
-    let numerators = net::numerators(head, surface, path);
+    let table = pascal::table();
+    let numerators = sums::numerators(&table, head, surface, path);
     write_exact(&numerators, count, exact);
-    write_points(
-        &numerators,
-        scale(request::degree(head) as usize),
-        count,
-        points,
-    );
+    let r = request::degree(head) as usize;
+    write_points(&table, &numerators, r, count, points);
     answer
 }

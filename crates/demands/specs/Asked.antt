@@ -10,7 +10,7 @@ use lib.ListN.{length, drop, length-append}
 use lib.Seq.{ext-getD}
 use borrow.Author.Tests.{le-ltb, eq-eqb}
 use Rattle.units.specs.Bounds.{stale}
-use Rattle.request.specs.Head.{surfaceCount, pathCount}
+use Rattle.request.specs.Head.{mostPoints, surfaceCount, pathCount}
 use Rattle.request.specs.Request.{Request}
 use Rattle.request.specs.Cascade.{first, decided}
 use Rattle.request.specs.Refusal.{notKind, notDegree, accepted, refusals, answer}
@@ -20,7 +20,7 @@ use Rattle.compose.proofs.Written.{below-at, below-length}
 use Rattle.wire.specs.Words.{wordEnd, wordBytes, wordAt, numberBytes, numberAt}
 use Rattle.wire.specs.Start.{lengthField, kindField, recordStart, recordOf}
 use Rattle.door.specs.Record.{start, agedStart, headIn, isAged, startIn, ageIn, pathStart, bodyEnd, requestIn, headBytes, kindOf, ageBytes, requestRecord}
-use Rattle.door.specs.Judgement.{mostPoints, notOfKind, notFrame, notBody, doorRefusals, judged}
+use Rattle.door.specs.Judgement.{notOfKind, notFrame, notBody, doorRefusals, judged}
 use Rattle.door.specs.Parts.{AllShort}
 use Rattle.wire.proofs.Words.{numbers-length, number-read}
 

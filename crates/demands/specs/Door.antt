@@ -11,8 +11,9 @@ use lib.ListN.{length, getD, drop}
 use lib.Seq.{drop-at}
 use borrow.Author.Tests.{le-ltb, eq-eqb}
 use Rattle.whole.proofs.Determined.{Determined}
+use Rattle.request.proofs.Forms.{longest-most}
 use Rattle.request.specs.declared.Answer.{Answer}
-use Rattle.request.specs.Head.{longest}
+use Rattle.request.specs.Head.{mostPoints, longest}
 use Rattle.request.specs.Request.{Request}
 use Rattle.request.specs.Cascade.{first, refused, decided}
 use Rattle.request.specs.Refusal.{notSurface, notPath, notRoom, accepted, refusals, answer}
@@ -21,13 +22,13 @@ use Rattle.net.specs.Composed.{point}
 use Rattle.wire.specs.Words.{Short, wordAt, wordBytes, numberBytes, numberAt}
 use Rattle.wire.specs.Start.{lengthField, kindField, recordStart, recordOf}
 use Rattle.door.specs.Record.{start, replyKind, headIn, ageIn, answerBytes, requestIn, replyRecord}
-use Rattle.door.specs.Judgement.{mostPoints, judged}
+use Rattle.door.specs.Judgement.{judged}
 use Rattle.door.specs.Contract.{pointsOf, replyOf, over, room, Answered}
 use Rattle.wire.proofs.Words.{number-read}
 use Rattle.door.proofs.Over.{over-length}
 use Rattle.door.proofs.Order.{Passed, judged-is}
 use Rattle.door.proofs.Replies.{reply-length}
-use Rattle.door.proofs.Sending.{judged-fits, surface-read, path-read, longest-most, points-length, points-at, sendable}
+use Rattle.door.proofs.Sending.{judged-fits, surface-read, path-read, points-length, points-at, sendable}
 use Rattle.door.proofs.Room.{count-is, reply-is}
 
 -- ---- any two results that the contract allows are equal

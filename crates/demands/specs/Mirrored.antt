@@ -5,13 +5,14 @@ use mathlib.Core.List.{map}
 use mathlib.Core.Option.{Option}
 use Prim.Native.Nat.{ℕ, zero, suc}
 use lib.IntN.{ℤ, negℤ}
+use Rattle.request.specs.Head.{mostPoints}
 use Rattle.request.specs.Request.{Request}
 use Rattle.net.specs.Composed.{point}
 use Rattle.net.specs.Mirror.{mirrored}
 use Rattle.net.proofs.Mirror.{answer-mirrored, point-mirrored}
 use Rattle.compose.specs.Afterwards.{listBelow}
 use Rattle.door.specs.Record.{requestRecord, replyRecord}
-use Rattle.door.specs.Judgement.{mostPoints, judged}
+use Rattle.door.specs.Judgement.{judged}
 use Rattle.door.specs.Contract.{pointsOf, replyOf}
 use Rattle.demands.specs.Asked.{Fits, milliseconds, Askable, read-again, answered-alike}
 

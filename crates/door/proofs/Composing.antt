@@ -7,7 +7,7 @@ use lib.ListN.{length, take}
 use lib.Seq.{take-at}
 use Rattle.request.specs.declared.Answer.{Answer}
 use Rattle.request.specs.declared.Head.{Head}
-use Rattle.request.specs.Head.{surfaceCount, pathCount}
+use Rattle.request.specs.Head.{mostPoints, surfaceCount, pathCount}
 use Rattle.request.specs.Request.{Request}
 use Rattle.request.specs.Refusal.{answer}
 use Rattle.compose.specs.Afterwards.{listBelow, afterwards, pointsAfter}
@@ -15,7 +15,6 @@ use Rattle.compose.specs.Contract.{Composed}
 use Rattle.compose.proofs.Written.{below-length}
 use Rattle.wire.specs.Words.{numberAt}
 use Rattle.door.specs.Record.{headIn, startIn, ageIn, pathStart, requestIn}
-use Rattle.door.specs.Judgement.{mostPoints}
 use Rattle.door.specs.Parts.{Given}
 
 -- the first places of an array are what was written to them

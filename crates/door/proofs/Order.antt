@@ -8,6 +8,7 @@ use lib.Dec.{ltb, eqb}
 use lib.ListN.{length}
 use borrow.Author.Tests.{ltb-false}
 use Rattle.units.specs.Bounds.{stale}
+use Rattle.request.specs.Head.{mostPoints}
 use Rattle.request.specs.declared.Answer.{Answer}
 use Rattle.request.specs.Cascade.{refused}
 use Rattle.request.specs.Refusal.{notKind, notDegree, answer}
@@ -16,7 +17,7 @@ use Rattle.request.proofs.Cascade.{Each, None, decided-is}
 use Rattle.compose.proofs.Written.{afterwards-none}
 use Rattle.wire.specs.Start.{lengthField, kindField}
 use Rattle.door.specs.Record.{requestKind, start, agedStart, headIn, isAged, startIn, ageIn, requestIn}
-use Rattle.door.specs.Judgement.{mostPoints, notOfKind, notFrame, notBody, doorRefusals, judged}
+use Rattle.door.specs.Judgement.{notOfKind, notFrame, notBody, doorRefusals, judged}
 use Rattle.door.specs.Parts.{Given}
 
 -- none of the door's tests holds

@@ -3,18 +3,16 @@ use mathlib.Core.Path.{_≡_, ap}
 use mathlib.Core.Bool.{false}
 use mathlib.Core.List.{List, [], append-nil}
 use Prim.Native.Nat.{ℕ, _≤_, _<_}
-use native.Mathlib.Nat.{mul-le-mul}
 use native.Mathlib.Decide.{ℕ-discrete}
 use native.Mathlib.Omega.{arith}
 use lib.IntN.{ℤ, pos, negsuc, natAbs}
 use lib.ListN.{length, getD, take}
 use Rattle.request.specs.declared.Answer.{Answer}
-use Rattle.request.specs.declared.Head.{Head}
-use Rattle.request.specs.Head.{longest, surfaceCount, pathCount}
+use Rattle.request.specs.Head.{mostPoints, mostPathNumbers, surfaceCount, pathCount}
 use Rattle.request.specs.Request.{Request}
 use Rattle.request.specs.Cascade.{refused}
 use Rattle.request.specs.Refusal.{notDegree, accepted, refusals, answer}
-use Rattle.request.proofs.Forms.{small, degree-most}
+use Rattle.request.proofs.Forms.{small, longest-most}
 use Rattle.request.proofs.Bounds.{value-most, parameter-most, balance-most}
 use Rattle.request.proofs.Cascade.{Each, decided-is}
 use Rattle.request.proofs.Accepted.{accepts, refusal-empty}
@@ -24,23 +22,19 @@ use Rattle.compose.proofs.Written.{below-at, below-length}
 use Rattle.compose.proofs.Entry.{composable}
 use Rattle.wire.specs.Words.{Short}
 use Rattle.door.specs.Record.{headIn, ageIn, requestIn}
-use Rattle.door.specs.Judgement.{mostPoints, judged}
+use Rattle.door.specs.Judgement.{judged}
 use Rattle.door.specs.Contract.{pointsOf}
 use Rattle.door.specs.Parts.{Given, InBytes, Sendable}
 use Rattle.door.proofs.Sizes.{surface-most, path-most}
 use Rattle.door.proofs.Order.{Passed, judged-is}
 use Rattle.door.proofs.Composing.{first-places}
 
-pub longest-most : (h : Head) → notDegree h ≡ false → longest h ≤ 12
-unfolding longest
-longest-most h d = mul-le-mul (degree-most h d) (small h d .N-most)
-
 -- ---- the answer
 refusal-fits : (number place : ℕ) → number < 256 → place < 256 → InBytes (refused number place)
 unfolding refused
 refusal-fits number place m n = record { number-fits = m; place-fits = n; few = omega arith }
 
-module _ (rq : Request) (d : notDegree (rq .head) ≡ false) (s : length (rq .surface) ≤ 15) (p : length (rq .path) ≤ 12) where
+module _ (rq : Request) (d : notDegree (rq .head) ≡ false) (s : length (rq .surface) ≤ 15) (p : length (rq .path) ≤ mostPathNumbers) where
   accepted-fits : InBytes (accepted (rq .head))
   unfolding accepted
   accepted-fits = record { number-fits = omega arith; place-fits = omega arith; few = omega (arith, longest-most (rq .head) d) }

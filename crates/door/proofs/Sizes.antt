@@ -7,7 +7,7 @@ use native.Mathlib.Nat.{mul-le-mul}
 use native.Mathlib.Omega.{arith}
 use lib.Dec.{eqb, lit≤}
 use Rattle.request.specs.declared.Head.{Head}
-use Rattle.request.specs.Head.{byForm, surfaceCount, pathCount, numbers}
+use Rattle.request.specs.Head.{mostN, mostPathNumbers, byForm, surfaceCount, pathCount, numbers}
 use Rattle.request.specs.Refusal.{notDegree}
 use Rattle.request.proofs.Forms.{small}
 use Rattle.door.specs.Record.{start, agedStart, isAged, startIn}
@@ -54,6 +54,6 @@ module _ (h : Head) (d : notDegree h ≡ false) where
       let s = small h d in
       each-form h _ _ _ 15 (omega arith) (tensor-most (h .first) (h .second) (s .r-most)) (triangle-most (h .first) (omega arith))
 
-  pub path-most : pathCount h ≤ 12
+  pub path-most : pathCount h ≤ mostPathNumbers
   unfolding pathCount numbers
-  path-most = let s = small h d in mul-le-mul {n₂ = 3} {m₂ = 4} (each-form h 1 2 3 3 (omega arith) (omega arith) (omega arith)) (omega arith)
+  path-most = let s = small h d in mul-le-mul {n₂ = 3} {m₂ = mostN + 1} (each-form h 1 2 3 3 (omega arith) (omega arith) (omega arith)) (omega arith)

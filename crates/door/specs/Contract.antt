@@ -7,10 +7,11 @@ use Prim.Native.Nat.{ℕ, _+_, _*_}
 use lib.IntN.{ℤ}
 use lib.Dec.{ltb}
 use lib.ListN.{length, drop}
+use Rattle.request.specs.Head.{mostPoints}
 use Rattle.net.specs.Composed.{point}
 use Rattle.compose.specs.Afterwards.{listBelow}
 use Rattle.door.specs.Record.{start, requestIn, replyRecord}
-use Rattle.door.specs.Judgement.{mostPoints, judged}
+use Rattle.door.specs.Judgement.{judged}
 
 -- the points of the reply, as many as the answer's count
 unfoldable pub pointsOf : List ℕ → List ℤ

@@ -7,14 +7,11 @@ use lib.Dec.{ltb, eqb}
 use lib.ListN.{length}
 use Rattle.units.specs.Bounds.{stale}
 use Rattle.request.specs.declared.Answer.{Answer}
+use Rattle.request.specs.Head.{mostPoints}
 use Rattle.request.specs.Cascade.{Test, test, first, decided}
 use Rattle.request.specs.Refusal.{notKind, notDegree, answer}
 use Rattle.wire.specs.Start.{lengthField, kindField}
 use Rattle.door.specs.Record.{requestKind, start, agedStart, headIn, isAged, startIn, ageIn, bodyEnd, requestIn}
-
--- the places that the composer is lent: as many as the longest ride has points
-abbrev pub mostPoints : ℕ
-mostPoints = 13
 
 -- "another kind"; and "kind 0x0002 [..] under 10 bytes is FRAME"
 unfoldable pub notOfKind : List ℕ → Bool

@@ -5,6 +5,7 @@ use mathlib.Core.List.{List}
 use Prim.Native.Nat.{ℕ, _≤_, _<_}
 use lib.IntN.{ℤ, pos}
 use lib.ListN.{length, getD}
+use Rattle.request.specs.Head.{mostPoints}
 use Rattle.request.specs.declared.Answer.{Answer}
 use Rattle.request.specs.declared.Head.{Head}
 use Rattle.request.specs.Refusal.{notDegree}
@@ -12,7 +13,6 @@ use Rattle.net.specs.Composed.{point}
 use Rattle.compose.specs.Afterwards.{afterwards}
 use Rattle.wire.specs.Words.{Short}
 use Rattle.door.specs.Record.{headIn, startIn, ageIn, bodyEnd, requestIn}
-use Rattle.door.specs.Judgement.{mostPoints}
 
 pub record AllShort (numbers : List ℤ) : Type 0 where
   pub each : (k : ℕ) → k < length numbers → Short (getD numbers k (pos 0))

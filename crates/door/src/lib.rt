@@ -5,12 +5,13 @@ ghost use mathlib.Core.Bool.{false};
 ghost use mathlib.Core.List.{_++_};
 ghost use Prim.Native.Nat.{_+_, _*_, _/_, _%_, _≤_, _<_};
 ghost use lib.ListN.{length, set};
+ghost use Rattle.request.specs.Head.{mostPoints};
 ghost use Rattle.request.specs.Refusal.{notDegree, answer};
 ghost use Rattle.compose.specs.Afterwards.{afterwards};
 ghost use Rattle.wire.specs.Words.{wordEnd, Short, unsigned, numberBytes, numberAt};
 ghost use Rattle.wire.specs.Start.{recordStart};
 ghost use Rattle.door.specs.Record.{start, replyKind, headIn, isAged, agedStart, startIn, ageIn, bodyEnd, requestIn, answerBytes, replyRecord};
-ghost use Rattle.door.specs.Judgement.{mostPoints, notFrame, judged};
+ghost use Rattle.door.specs.Judgement.{notFrame, judged};
 ghost use Rattle.door.specs.Contract.{over, room, Answered};
 ghost use Rattle.door.specs.Parts.{AllShort, Readable, Given, InBytes, Sendable};
 use request::Answer;
@@ -32,10 +33,6 @@ const AGED_START: usize = 10;
 
 // As many control values, path numbers and points as the greatest degrees ask for.
 const MOST_VALUES: usize = 15;
-
-const MOST_PATH_NUMBERS: usize = 12;
-
-const MOST_POINTS: usize = 13;
 
 // The bytes of the longest reply.
 const ROOM: usize = 34;
@@ -170,8 +167,8 @@ fn compose_in(request: &[u8], from: usize, head: Head, age: Age, points: &mut [i
     let surface_count = request::surface_count(head);
     let path_count = request::path_count(head);
     let mut surface = [0i32; MOST_VALUES];
-    let mut path = [0i32; MOST_PATH_NUMBERS];
-    let mut exact = [0i64; MOST_POINTS];
+    let mut path = [0i32; request::MOST_PATH_NUMBERS];
+    let mut exact = [0i64; request::MOST_POINTS];
     read_numbers(request, from, surface_count, &mut surface);
     read_numbers(request, from + 2 * surface_count, path_count, &mut path);
     compose::compose(
@@ -248,7 +245,7 @@ pub extern "C" fn door_reply(request: &[u8], reply: &mut [u8]) -> usize
     if reply.len() < ROOM {
         return 0;
     }
-    let mut points = [0i32; MOST_POINTS];
+    let mut points = [0i32; request::MOST_POINTS];
     let answer = judge_record(request, &mut points);
     let count = answer.count;
     write_reply(answer, &points[..count], reply)

@@ -1,15 +1,11 @@
 -- Laws of nets, steps and sums over all choices, and the theorem of a ride read at a moment. Assumes nothing.
+pub mod Every
 pub mod Steps
 pub mod Symmetry
 pub mod Size
-pub mod Places
 pub mod Weigh
-pub mod Arguments
-pub mod Choices
 pub mod Literal
-pub mod Turns
 pub mod Bounds
-pub mod Whole
 pub mod Evaluation
 pub mod Bernstein
 pub mod Powers

@@ -20,7 +20,7 @@ choose-some zero k = rw choose-zero (omega arith)
 choose-some (suc i) k = rw (suc-add, choose-pascal) (omega (arith, choose-some i k))
 
 -- only the terms with i + k = n count
-⊑-sum-on : (n : ℕ) {H J : ℕ → ℕ → ℤ} → ((i k : ℕ) → i + k ≡ n → H i k ⊑ J i k) → sumOver n H ⊑ sumOver n J
+pub ⊑-sum-on : (n : ℕ) {H J : ℕ → ℕ → ℤ} → ((i k : ℕ) → i + k ≡ n → H i k ⊑ J i k) → sumOver n H ⊑ sumOver n J
 ⊑-sum-on zero {H} {J} h = rw (sum-zero H, sum-zero J) (h 0 0 refl)
 ⊑-sum-on (suc n) {H} {J} h = rw (sum-suc n H, sum-suc n J) (⊑-add (h 0 (suc n) (zero-add _)) (⊑-sum-on n (λ i k e. h (suc i) k (suc-add i k ∙ ap suc e))))
 

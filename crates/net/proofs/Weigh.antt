@@ -2,13 +2,12 @@
 use mathlib.Core.Path.{_≡_, refl, sym, ap, _∙_}
 use Prim.Native.Nat.{ℕ, _+_, _-_, _≤_}
 use native.Mathlib.Omega.{arith}
-use lib.IntN.{ℤ, pos}
+use lib.IntN.{pos}
 use Rattle.whole.proofs.Ring.{_⊕_, _⊗_, _⊖_, pos-add, is-sub}
 use Rattle.net.specs.declared.Shares.{Shares}
 use Rattle.net.specs.Net.{Net}
-use Rattle.net.specs.Blossom.{Argument, alongU, alongV, within, step}
-use Rattle.net.specs.Lowered.{mixed}
-use Rattle.net.specs.Gathered.{Weighs}
+use Rattle.net.specs.Blossom.{Argument, alongU, alongV, within}
+use Rattle.net.specs.Weighing.{mixed, Weighs}
 use Rattle.net.proofs.Steps.{Weights, mix, weightsOf, step-is-mix}
 
 -- shares read as weights

@@ -1,7 +1,7 @@
 -- "The blossom, scaled": one argument makes a net one degree lower; after r arguments one number is left, the blossom
 -- value times 1024^r. Assumes nothing.
 use mathlib.Core.List.{List, [], _∷_}
-use Prim.Native.Nat.{ℕ, suc}
+use Prim.Native.Nat.{suc}
 use lib.IntN.{ℤ, pos, _+ℤ_, _-ℤ_, _*ℤ_}
 use Rattle.net.specs.Net.{Net}
 

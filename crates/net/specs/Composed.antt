@@ -1,9 +1,9 @@
 -- "The composed net": the literal sum over all choices (document 000, equation 8; document 004, Corollary 1), the exact
 -- point's denominator and the rounded point. Assumes nothing.
-use mathlib.Core.Bool.{Bool, cond}
+use mathlib.Core.Bool.{cond}
 use mathlib.Core.List.{List, [], _∷_, _++_, map}
 use Prim.Native.Nat.{ℕ, zero, suc, _+_, _*_, _^_}
-use lib.IntN.{ℤ, pos, _+ℤ_, _*ℤ_}
+use lib.IntN.{ℤ, pos, _*ℤ_}
 use lib.Dec.{eqb}
 use lib.ListN.{take, drop}
 use Rattle.whole.specs.Sum.{sumTo}
@@ -11,7 +11,7 @@ use Rattle.whole.specs.Choose.{choose}
 use Rattle.whole.specs.Round.{nearest}
 use Rattle.request.specs.Head.{byForm, degree, longest}
 use Rattle.request.specs.Request.{Request}
-use Rattle.net.specs.Net.{Net, netOf, pathNumber}
+use Rattle.net.specs.Net.{netOf, pathNumber}
 use Rattle.net.specs.Blossom.{Argument, alongU, alongV, within, blossom}
 
 -- the sum of F over "every choice of one path point number in 0..N for each of the r arguments"

@@ -1,4 +1,4 @@
--- What is answered: a binomial coefficient up to the last row, and at most 924, by a test of the rows, each made from the one
+-- What is answered: a binomial coefficient up to the last row, and at most the greatest, by a test of the rows, each made from the one
 -- above it. Callers cite the bound for their own sums. Assumes nothing.
 use mathlib.Core.Path.{_≡_, refl, _∙_, ap₂}
 use mathlib.Core.Bool.{Bool}
@@ -13,7 +13,7 @@ use lib.ListN.{getD}
 use borrow.Author.Tests.{le-leb, lt-leb}
 use Rattle.whole.specs.Choose.{choose}
 use Rattle.whole.proofs.Binomial.{choose-above}
-use Rattle.pascal.specs.Entry.{entry, lastRow}
+use Rattle.pascal.specs.Entry.{entry, lastRow, largest}
 use Rattle.pascal.proofs.Triangle.{each, each-at}
 
 pub entry-in : (n k : ℕ) → n ≤ lastRow → entry n k ≡ choose n k
@@ -74,9 +74,12 @@ choose-bound b last t n k h =
     (λ (l : n < k). omega (arith, choose-above n k l))
     (order k n)
 
-pub entry-bound : (n k : ℕ) → entry n k ≤ 924
+pub choose-most : (n k : ℕ) → n ≤ lastRow → choose n k ≤ largest
+choose-most = choose-bound largest lastRow tt
+
+pub entry-bound : (n k : ℕ) → entry n k ≤ largest
 entry-bound n k =
     ⊎-elim
-    (λ (h : n ≤ lastRow). rw (entry-in n k h) (choose-bound 924 lastRow tt n k h))
+    (λ (h : n ≤ lastRow). rw (entry-in n k h) (choose-most n k h))
     (λ (h : lastRow < n). omega (arith, entry-past n k h))
     (order n lastRow)

@@ -2,7 +2,7 @@
 // number of it is the binomial coefficient of its row and place. What is answered is in specs/. Assumes nothing.
 ghost use mathlib.Core.Path.{_≡_};
 ghost use Prim.Native.Nat.{_≤_};
-ghost use Rattle.pascal.specs.Entry.{lastRow, entry, cellOf};
+ghost use Rattle.pascal.specs.Entry.{lastRow, entry, cellOf, Pascal};
 
 // The number of the table's last row.
 const LAST_ROW: usize = 12;
@@ -130,8 +130,16 @@ fn cell(table: &[u32; 91], n: usize, k: usize) -> u64
     wide(table[at])
 }
 
+// The table. A constant is built anew wherever it is used, so a ride asks for it once and lends it.
+pub fn table() -> [u32; 91]
+    ensures { λ r. ⌜ Pascal r ⌝ }
+{
+    TABLE
+}
+
 // n over k up to the last row; 0 for k above n, and for a row that the table does not have.
-pub fn binomial(n: usize, k: usize) -> u64
+pub fn binomial(table: &[u32; 91], n: usize, k: usize) -> u64
+    requires { ⌜ Pascal (now table) ⌝ }
     ensures { λ r. ⌜ r ≡ entry n k ⌝ }
 {
     if n > LAST_ROW {
@@ -140,5 +148,5 @@ pub fn binomial(n: usize, k: usize) -> u64
     if k > n {
         return 0;
     }
-    cell(&TABLE, n, k)
+    cell(table, n, k)
 }

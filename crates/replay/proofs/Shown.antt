@@ -44,7 +44,7 @@ module _ (a b : List ℕ) (i : ℕ) (so : Alike a b i) where
     unfolding firstDifference
     alike-here e =
         let f : firstDifference a b ≡ i + suc (firstDifference (drop (suc i) a) (drop (suc i) b)) =
-            rw (eq-eqb (getD a i 0) (getD b i 0) e) at here in
+        rw (eq-eqb (getD a i 0) (getD b i 0) e) at here in
         rw add-one (omega arith)
 
 -- how many points, by the three tests
@@ -64,10 +64,22 @@ module _ (reply : List ℕ) where
 
     pub other-length : getD reply 4 0 ≡ 0 → (8 + 2 * getD reply 6 0 ≡ length reply → ⊥) → 0 ≡ pointsIn reply
     unfolding pointsIn
-    other-length z n = rw (kind-is, ← k, eq-eqb kind 0x8001 is, eq-eqb (getD reply 4 0) 0 z, ne-eqb (8 + 2 * getD reply 6 0)
-        (length reply) n)
+    other-length z n = rw (
+      kind-is,
+      ← k,
+      eq-eqb kind 0x8001 is,
+      eq-eqb (getD reply 4 0) 0 z,
+      ne-eqb (8 + 2 * getD reply 6 0)
+          (length reply) n,
+    )
 
     pub so-many : getD reply 4 0 ≡ 0 → 8 + 2 * getD reply 6 0 ≡ length reply → getD reply 6 0 ≡ pointsIn reply
     unfolding pointsIn
-    so-many z n = rw (kind-is, ← k, eq-eqb kind 0x8001 is, eq-eqb (getD reply 4 0) 0 z, eq-eqb (8 + 2 * getD reply 6 0)
-        (length reply) n)
+    so-many z n = rw (
+      kind-is,
+      ← k,
+      eq-eqb kind 0x8001 is,
+      eq-eqb (getD reply 4 0) 0 z,
+      eq-eqb (8 + 2 * getD reply 6 0)
+          (length reply) n,
+    )

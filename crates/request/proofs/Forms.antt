@@ -1,12 +1,13 @@
 -- What a known form chooses, what DEGREE leaves, and when two tests of order agree. Assumes nothing.
 use mathlib.Core.Path.{_≡_, refl, sym, _∙_}
 use mathlib.Core.Bool.{Bool, true, false, not, cond, _||_, or-false}
-use Prim.Native.Nat.{ℕ, _+_, _-_, _≤_, _<_}
+use Prim.Native.Nat.{ℕ, _+_, _*_, _-_, _≤_, _<_}
+use native.Mathlib.Nat.{mul-le-mul}
 use native.Mathlib.Omega.{arith}
 use lib.Dec.{ltb, eqb}
 use borrow.Author.Tests.{lt-ltb, le-ltb, ltb-true, ltb-false, eq-eqb, ne-eqb, eqb-true, not-false}
 use Rattle.request.specs.declared.Head.{Head}
-use Rattle.request.specs.Head.{byForm, degree}
+use Rattle.request.specs.Head.{mostDegree, mostN, byForm, degree, longest}
 use Rattle.request.specs.Refusal.{notKind, notDegree}
 
 -- two tests that hold together are one test
@@ -62,16 +63,16 @@ first-le h = go (eqb (h .form) 1) (eqb (h .form) 2)
     go false false = omega arith
 
 -- what is left of DEGREE where the first degree and N are small
-pub small-tensor : (h : Head) → h .form ≡ 2 → h .first ≤ 4 → h .N ≤ 3 → ltb (4 - h .first) (h .second) ≡ notDegree h
+pub small-tensor : (h : Head) → h .form ≡ 2 → h .first ≤ mostDegree → h .N ≤ mostN → ltb (mostDegree - h .first) (h .second) ≡ notDegree h
 unfolding notDegree degree
 small-tensor h e f n =
-    simp (at-tensor h (h .first) (h .first + h .second) (h .first) e, at-tensor h (not (eqb (h .second) 0)) false (not (eqb (h .second) 0)) e, le-ltb 3 (h .N) n, or-false)
-    (same-test (4 - h .first) (h .second) 4 (h .first + h .second) (λ l. omega arith) (λ l. omega arith))
+    simp (at-tensor h (h .first) (h .first + h .second) (h .first) e, at-tensor h (not (eqb (h .second) 0)) false (not (eqb (h .second) 0)) e, le-ltb mostN (h .N) n, or-false)
+    (same-test (mostDegree - h .first) (h .second) mostDegree (h .first + h .second) (λ l. omega arith) (λ l. omega arith))
 
-pub small-outer : (h : Head) → (h .form ≡ 2 → ⊥) → h .first ≤ 4 → h .N ≤ 3 → not (eqb (h .second) 0) ≡ notDegree h
+pub small-outer : (h : Head) → (h .form ≡ 2 → ⊥) → h .first ≤ mostDegree → h .N ≤ mostN → not (eqb (h .second) 0) ≡ notDegree h
 unfolding notDegree degree
 small-outer h no2 f n =
-    rw (at-outer h (h .first) (h .first + h .second) no2, at-outer h (not (eqb (h .second) 0)) false no2, le-ltb 4 (h .first) f, le-ltb 3 (h .N) n)
+    rw (at-outer h (h .first) (h .first + h .second) no2, at-outer h (not (eqb (h .second) 0)) false no2, le-ltb mostDegree (h .first) f, le-ltb mostN (h .N) n)
 
 pub or-none : (a b : Bool) → (a || b) ≡ false → (a ≡ false) × (b ≡ false)
 or-none true b e = (e, cc)
@@ -80,15 +81,15 @@ or-none false b e = (refl, e)
 -- what DEGREE leaves: both degrees together are r, at most 4, and N is at most 3
 pub record Small (h : Head) : Type 0 where
   pub r-is : degree h ≡ h .first + h .second
-  pub r-most : h .first + h .second ≤ 4
-  pub N-most : h .N ≤ 3
+  pub r-most : h .first + h .second ≤ mostDegree
+  pub N-most : h .N ≤ mostN
 
 -- the three parts of DEGREE's test, where it fails
-parts : (x n : ℕ) (t : Bool) → (ltb 4 x || ltb 3 n || t) ≡ false → (x ≤ 4) × (n ≤ 3) × (t ≡ false)
+parts : (x n : ℕ) (t : Bool) → (ltb mostDegree x || ltb mostN n || t) ≡ false → (x ≤ mostDegree) × (n ≤ mostN) × (t ≡ false)
 parts x n t e =
-    let outer = or-none (ltb 4 x || ltb 3 n) t e in
-    let inner = or-none (ltb 4 x) (ltb 3 n) (outer .0) in
-    (ltb-false 4 x (inner .0), ltb-false 3 n (inner .1), outer .1)
+    let outer = or-none (ltb mostDegree x || ltb mostN n) t e in
+    let inner = or-none (ltb mostDegree x) (ltb mostN n) (outer .0) in
+    (ltb-false mostDegree x (inner .0), ltb-false mostN n (inner .1), outer .1)
 
 zero-second : (s : ℕ) → not (eqb s 0) ≡ false → s ≡ 0
 zero-second s e = eqb-true s 0 (not-false (eqb s 0) e)
@@ -98,7 +99,7 @@ unfolding notDegree degree byForm
 small h e = go (eqb (h .form) 1) (eqb (h .form) 2) refl refl e
   where
     go : (a b : Bool) → eqb (h .form) 1 ≡ a → eqb (h .form) 2 ≡ b
-        → (ltb 4 (cond a (h .first) (cond b (h .first + h .second) (h .first))) || ltb 3 (h .N) || cond a (not (eqb (h .second) 0)) (cond b false (not (eqb (h .second) 0)))) ≡ false
+        → (ltb mostDegree (cond a (h .first) (cond b (h .first + h .second) (h .first))) || ltb mostN (h .N) || cond a (not (eqb (h .second) 0)) (cond b false (not (eqb (h .second) 0)))) ≡ false
         → Small h
     go true b p q t =
         let w = parts (h .first) (h .N) (not (eqb (h .second) 0)) t in
@@ -112,5 +113,10 @@ small h e = go (eqb (h .form) 1) (eqb (h .form) 2) refl refl e
         let z = zero-second (h .second) (w .2) in
         record { r-is = rw (p, q) (omega arith); r-most = omega arith; N-most = w .1 }
 
-pub degree-most : (h : Head) → notDegree h ≡ false → degree h ≤ 4
+pub degree-most : (h : Head) → notDegree h ≡ false → degree h ≤ mostDegree
 degree-most h e = let s = small h e in omega arith
+
+-- and so is L
+pub longest-most : (h : Head) → notDegree h ≡ false → longest h ≤ mostDegree * mostN
+unfolding longest
+longest-most h e = mul-le-mul (degree-most h e) (small h e .N-most)

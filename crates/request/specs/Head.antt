@@ -5,6 +5,21 @@ use Prim.Native.Nat.{ℕ, _+_, _*_, _/_}
 use lib.Dec.{eqb}
 use Rattle.request.specs.declared.Head.{Head}
 
+-- "r is 0 to 4; N is 0 to 3"
+abbrev pub mostDegree : ℕ
+mostDegree = 4
+
+abbrev pub mostN : ℕ
+mostN = 3
+
+-- "so L is at most 12": the points of the longest answer
+abbrev pub mostPoints : ℕ
+mostPoints = mostDegree * mostN + 1
+
+-- the numbers of the longest path, three to each of its points
+abbrev pub mostPathNumbers : ℕ
+mostPathNumbers = 3 * (mostN + 1)
+
 -- the first for form 1, the second for form 2, the third for form 3 (KIND refuses every other form)
 unfoldable pub byForm {ℓ} : {A : Type ℓ} → Head → A → A → A → A
 byForm h curve tensor triangle = cond (eqb (h .form) 1) curve (cond (eqb (h .form) 2) tensor triangle)

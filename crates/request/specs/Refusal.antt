@@ -9,7 +9,7 @@ use lib.ListN.{length, getD}
 use Rattle.units.specs.Bounds.{beyondTravel, beyondPath, stale, pathOne}
 use Rattle.request.specs.declared.Answer.{Answer}
 use Rattle.request.specs.declared.Head.{Head}
-use Rattle.request.specs.Head.{byForm, degree, longest, surfaceCount, pathCount}
+use Rattle.request.specs.Head.{mostDegree, mostN, byForm, degree, longest, surfaceCount, pathCount}
 use Rattle.request.specs.Request.{Request}
 use Rattle.request.specs.Cascade.{Test, test, first, decided}
 
@@ -24,7 +24,7 @@ notKind h = not (eqb (h .form) 1 || eqb (h .form) 2 || eqb (h .form) 3)
 
 -- 2 DEGREE: "r above 4, N above 3, or a second degree other than 0 in forms 1 and 3"
 unfoldable pub notDegree : Head → Bool
-notDegree h = ltb 4 (degree h) || ltb 3 (h .N) || byForm h (not (eqb (h .second) 0)) false (not (eqb (h .second) 0))
+notDegree h = ltb mostDegree (degree h) || ltb mostN (h .N) || byForm h (not (eqb (h .second) 0)) false (not (eqb (h .second) 0))
 
 -- 3 SURFACE: "count of control values is not exactly m+1, (l+1)(m+1) or (n+1)(n+2)/2"
 unfoldable pub notSurface : Request → Bool

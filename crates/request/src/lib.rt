@@ -2,12 +2,21 @@
 // place and a count for every request and writes nothing.
 ghost use mathlib.Core.Path.{_≡_};
 ghost use mathlib.Core.Bool.{false};
-ghost use Prim.Native.Nat.{_+_, _<_};
+ghost use Prim.Native.Nat.{_+_, _≤_};
 ghost use lib.ListN.{length};
-ghost use Rattle.request.specs.Head.{degree, longest, surfaceCount, pathCount};
+ghost use Rattle.request.specs.Head.{mostN, degree, longest, surfaceCount, pathCount};
 ghost use Rattle.request.specs.Cascade.{refused};
 ghost use Rattle.request.specs.Refusal.{answer, uneven, notKind, notDegree, valuePlace, parameterPlace, balancePlace};
 use units::Age;
+
+// The greatest r and the greatest N, and what they ask for at most.
+const MOST_DEGREE: u32 = 4;
+
+const MOST_N: u32 = 3;
+
+pub const MOST_POINTS: usize = 13;
+
+pub const MOST_PATH_NUMBERS: usize = 12;
 
 // What a request is besides its two arrays: the form, a first and a second degree, and the path's degree N.
 pub struct Head {
@@ -54,14 +63,14 @@ pub fn not_degree(head: Head) -> bool
 {
     let first = head.first;
     let second = head.second;
-    if 4 < first {
+    if MOST_DEGREE < first {
         return true;
     }
-    if 3 < head.N {
+    if MOST_N < head.N {
         return true;
     }
     if head.form == 2 {
-        return 4 - first < second;
+        return MOST_DEGREE - first < second;
     }
     second != 0
 }
@@ -147,7 +156,7 @@ fn parameter_place(path: &[i32]) -> usize
 
 // Whether x + y + z of path point c is not 1024. The path's numbers are within their bounds.
 fn is_uneven(path: &[i32], c: usize) -> bool
-    requires { ⌜ (c < 4) × (parameterPlace (now path) ≡ length (now path)) ⌝ }
+    requires { ⌜ (c ≤ mostN) × (parameterPlace (now path) ≡ length (now path)) ⌝ }
     ensures { λ r. ⌜ r ≡ uneven (now (path .entry)) c ⌝ }
 {
     let x = units::path_size_at(path, 3 * c);
@@ -158,7 +167,7 @@ fn is_uneven(path: &[i32], c: usize) -> bool
 
 // The least number of a path point whose x + y + z is not 1024, or N + 1.
 fn balance_place(path: &[i32], n: usize) -> usize
-    requires { ⌜ (n < 4) × (parameterPlace (now path) ≡ length (now path)) ⌝ }
+    requires { ⌜ (n ≤ mostN) × (parameterPlace (now path) ≡ length (now path)) ⌝ }
     ensures { λ r. ⌜ r ≡ balancePlace (now (path .entry)) n ⌝ }
 {
     let mut c = 0;

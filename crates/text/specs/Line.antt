@@ -6,7 +6,7 @@ use mathlib.Core.List.{List, [], _∷_, _++_}
 use Prim.Native.Nat.{ℕ, zero, suc, _+_}
 use lib.Dec.{ltb, eqb}
 use lib.IntN.{ℤ}
-use lib.ListN.{length, getD, drop}
+use lib.ListN.{length, getD}
 use Rattle.request.specs.declared.Head.{Head}
 use Rattle.text.specs.Words.{isBlank, every, wordAfter, between, bytesAt, isNone, signed, leftOver, tooLong, digitsWithin, numberOf, isAge}
 use Rattle.text.specs.declared.word.Place.{Place}

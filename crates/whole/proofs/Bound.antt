@@ -8,11 +8,7 @@ use native.Mathlib.Nat.{le-refl, le-trans, le-of-eq, add-le-add, mul-le-mul}
 use native.Mathlib.Omega.{arith}
 use lib.Dec.{ltb}
 use lib.IntN.{ℤ, pos, negsuc, negℤ, natAbs, subℕ, _+ℤ_, _*ℤ_, pow}
-use Rattle.whole.specs.Sum.{sumOver}
-use Rattle.whole.specs.Choose.{choose}
 use Rattle.whole.proofs.Ring.{_⊕_, _⊗_, pow-zero, pow-suc}
-use Rattle.whole.proofs.Sums.{sum-zero, sum-suc}
-use Rattle.whole.proofs.Binomial.{weighed}
 
 -- a difference with something taken away is, whichever way it turns out, at most the sum
 natAbs-sub : (a b : ℕ) → natAbs (subℕ a (suc b)) ≤ a + suc b
@@ -68,11 +64,3 @@ pub ⊑-scale : (c : ℕ) {x y : ℤ} → x ⊑ y → pos c ⊗ x ⊑ pos c ⊗ 
 pub ⊑-pow : (n : ℕ) {x y : ℤ} → x ⊑ y → pow x n ⊑ pow y n
 ⊑-pow zero {x} {y} h = rw (pow-zero x, pow-zero y) (⊑-refl-pos 1)
 ⊑-pow (suc n) {x} {y} h = rw (pow-suc x n, pow-suc y n) (⊑-mul h (⊑-pow n h))
-
-pub ⊑-sum : (n : ℕ) {H J : ℕ → ℕ → ℤ} → ((i k : ℕ) → H i k ⊑ J i k) → sumOver n H ⊑ sumOver n J
-⊑-sum zero {H} {J} h = rw (sum-zero H, sum-zero J) (h 0 0)
-⊑-sum (suc n) {H} {J} h = rw (sum-suc n H, sum-suc n J) (⊑-add (h 0 (suc n)) (⊑-sum n (λ i k. h (suc i) k)))
-
-pub ⊑-weighed : (n : ℕ) {H J : ℕ → ℕ → ℤ} → ((i k : ℕ) → H i k ⊑ J i k) → weighed n H ⊑ weighed n J
-unfolding weighed
-⊑-weighed n h = ⊑-sum n (λ i k. ⊑-scale (choose n i) (h i k))

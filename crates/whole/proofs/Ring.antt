@@ -28,18 +28,6 @@ pub ⊕-is : (a b : ℤ) → a ⊕ b ≡ a +ℤ b
 unfolding _⊕_
 ⊕-is a b = refl
 
-pub ⊖-is : (a b : ℤ) → a ⊖ b ≡ a -ℤ b
-unfolding _⊖_
-⊖-is a b = refl
-
-pub ⊗-is : (a b : ℤ) → a ⊗ b ≡ a *ℤ b
-unfolding _⊗_
-⊗-is a b = refl
-
-pub ⊝-is : (a : ℤ) → ⊝ a ≡ negℤ a
-unfolding ⊝_
-⊝-is a = refl
-
 pub pos-add : (m n : ℕ) → pos (m + n) ≡ pos m ⊕ pos n
 unfolding _⊕_
 pos-add m n = refl
@@ -183,26 +171,6 @@ pub sub-eq : (a b c d : ℤ) → a ⊕ d ≡ c ⊕ b → a ⊖ b ≡ c ⊖ d
 sub-eq a b c d e = is-sub _ d c (sub-add a b d ∙ sym (is-sub c b _ (sym e)))
 
 -- ---- the same laws for the library's own symbols
-pub +ℤ-left-comm : (a b c : ℤ) → a +ℤ (b +ℤ c) ≡ b +ℤ (a +ℤ c)
-unfolding _⊕_
-+ℤ-left-comm = ⊕-left-comm
-
-pub *ℤ-assoc : (a b c : ℤ) → (a *ℤ b) *ℤ c ≡ a *ℤ (b *ℤ c)
-unfolding _⊗_
-*ℤ-assoc = ⊗-assoc
-
-pub *ℤ-left-comm : (a b c : ℤ) → a *ℤ (b *ℤ c) ≡ b *ℤ (a *ℤ c)
-unfolding _⊗_
-*ℤ-left-comm = ⊗-left-comm
-
-pub *ℤ-+ℤ : (a b c : ℤ) → a *ℤ (b +ℤ c) ≡ a *ℤ b +ℤ a *ℤ c
-unfolding _⊕_ _⊗_
-*ℤ-+ℤ = ⊗-⊕
-
-pub +ℤ-*ℤ : (a b c : ℤ) → (a +ℤ b) *ℤ c ≡ a *ℤ c +ℤ b *ℤ c
-unfolding _⊕_ _⊗_
-+ℤ-*ℤ = ⊕-⊗
-
 pub negℤ-*ℤ : (a b : ℤ) → negℤ a *ℤ b ≡ negℤ (a *ℤ b)
 unfolding ⊝_ _⊗_
 negℤ-*ℤ = ⊝-⊗
@@ -226,7 +194,3 @@ pow-pos a (suc n) = pow-suc (pos a) n ∙ ap (λ x. pos a ⊗ x) (pow-pos a n) �
 pub pow-add : (a : ℤ) (m n : ℕ) → pow a (m + n) ≡ pow a m ⊗ pow a n
 pow-add a zero n = rw (Nat.zero-add, pow-zero, one-⊗)
 pow-add a (suc m) n = rw (Nat.suc-add, pow-suc a (m + n), pow-suc a m, pow-add a m n, ⊗-assoc)
-
-pub pow-mul-base : (a b : ℤ) (n : ℕ) → pow (a ⊗ b) n ≡ pow a n ⊗ pow b n
-pow-mul-base a b zero = rw (pow-zero (a ⊗ b), pow-zero a, pow-zero b, one-⊗)
-pow-mul-base a b (suc n) = rw (pow-suc (a ⊗ b), pow-suc a, pow-suc b, pow-mul-base a b n) (simp mul-ac)

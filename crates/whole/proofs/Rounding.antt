@@ -77,7 +77,7 @@ mirrored n p d r = record {
 }
 
 -- of two numbers that are not negative, and of one that is
-distance : (a b : ℕ) → natAbs (pos a -ℤ pos b) ≡ (a - b) + (b - a)
+pub distance : (a b : ℕ) → natAbs (pos a -ℤ pos b) ≡ (a - b) + (b - a)
 distance a zero = omega arith
 distance a (suc b) = either (ltb a (suc b)) refl
   where

@@ -50,7 +50,3 @@ sum-swap (suc m) n H =
 pub sum-last : (n : ℕ) (H : ℕ → ℕ → ℤ) → sumOver (suc n) H ≡ sumOver n (λ i k. H i (suc k)) ⊕ H (suc n) 0
 sum-last zero H = rw (sum-suc 0 H, sum-zero (λ i k. H (suc i) k), sum-zero (λ i k. H i (suc k)))
 sum-last (suc n) H = rw (sum-suc (suc n) H, sum-last n (λ i k. H (suc i) k), sum-suc n (λ i k. H i (suc k)), ⊕-assoc)
-
-pub sumTo-last : (n : ℕ) (f : ℕ → ℤ) → sumTo (suc n) f ≡ sumTo n f ⊕ f (suc n)
-unfolding sumTo
-sumTo-last n f = sum-last n (λ i k. f i)

@@ -1,7 +1,7 @@
 -- Laws of two-byte numbers: what is written is what is read, unsigned and signed, one number and many. Assumes nothing.
 use mathlib.Core.Path.{_≡_, refl, ap, _∙_}
 use mathlib.Core.List.{List, [], _∷_, _++_, append-assoc}
-use Prim.Native.Nat.{ℕ, zero, suc, _+_, _*_, _-_, _/_, _%_, _≤_, _<_}
+use Prim.Native.Nat.{ℕ, zero, suc, _+_, _*_, _-_, _≤_, _<_}
 use native.Mathlib.Nat.{add-assoc}
 use native.Mathlib.Decide.{decLt}
 use native.Mathlib.Numerals.{add-one}
@@ -32,11 +32,6 @@ signed-short word m = go (decLt word half)
     go (yes h) = rw (signed-below word h) h
     go (no h) = rw (signed-above word (omega arith)) (negative-short (wordEnd - word) (omega arith))
 
-pub unsigned-fits : (z : ℤ) → Short z → unsigned z < wordEnd
-unfolding unsigned
-unsigned-fits (pos n) m = omega arith
-unsigned-fits (negsuc n) m = omega arith
-
 pub signed-unsigned : (z : ℤ) → Short z → signed (unsigned z) ≡ z
 unfolding unsigned
 signed-unsigned (pos n) m = signed-below n m
@@ -44,27 +39,7 @@ signed-unsigned (negsuc n) m =
     let e : wordEnd - (wordEnd - suc n) ≡ suc n = omega arith in
     signed-above (wordEnd - suc n) (omega arith) ∙ ap (λ x. negℤ (pos x)) e
 
-unsigned-negative : (x : ℕ) → 0 < x → unsigned (negℤ (pos x)) ≡ wordEnd - x
-unfolding unsigned
-unsigned-negative zero m = absurd (omega arith)
-unsigned-negative (suc x) m = refl
-
-pub unsigned-signed : (word : ℕ) → word < wordEnd → unsigned (signed word) ≡ word
-unfolding unsigned
-unsigned-signed word m = go (decLt word half)
-  where
-    go : Dec (word < half) → unsigned (signed word) ≡ word
-    go (yes h) = rw (signed-below word h)
-    go (no h) = rw (signed-above word (omega arith)) (unsigned-negative (wordEnd - word) (omega arith) ∙ omega arith)
-
 -- ---- an unsigned number and its bytes
-pub bytes-of-word : (low high : ℕ) → low < 256 → wordBytes (low + 256 * high) ≡ low ∷ high ∷ []
-unfolding wordBytes
-bytes-of-word low high m =
-    let e : (low + 256 * high) % 256 ≡ low = omega arith in
-    let f : (low + 256 * high) / 256 ≡ high = omega arith in
-    rw (e, f)
-
 -- read further on
 word-after : (before bytes : List ℕ) (k : ℕ) → wordAt (before ++ bytes) (length before + k) ≡ wordAt bytes k
 unfolding wordAt

@@ -1,16 +1,13 @@
 -- `compose::compose` meets its contract: a refusal leaves both arrays; an acceptance writes the numerators, which are
 -- document 01's, and each of them rounded. Assumes nothing.
-use mathlib.Core.Path.{_≡_, refl, sym, ap, _∙_}
-use Prim.Native.Nat.{_^_}
+use mathlib.Core.Path.{refl, sym, ap, _∙_}
 use native.Mathlib.Omega.{arith}
 use lib.ListN.{length}
 use borrow.Author.Needs.{needs}
-use Rattle.request.specs.Head.{degree}
 use Rattle.request.specs.Request.{Request}
-use Rattle.request.proofs.Forms.{degree-most}
 use Rattle.request.proofs.Accepted.{accepts}
-use Rattle.net.specs.Loaded.{Composable}
-use Rattle.compose.proofs.Entry.{refused-result, composable, Room, room-for, all-roundable, accepted-result}
+use Rattle.net.specs.Sizes.{Composable}
+use Rattle.compose.proofs.Entry.{refused-result, composable, Room, room-for, points-at, accepted-result}
 use Rattle.compose.proofs.compose.Statement.{statement}
 use Rattle.compose.proofs.compose.Tie as tie
 
@@ -21,14 +18,11 @@ rq s = record { head = s .args .head; surface = s .args .surface .now; path = s 
 abbrev begun : tie.Else1 → tie.Start
 begun c = c .before .before .before
 
-abbrev judged : tie.After-numerators → tie.Else1
-judged c = c .before
-
 abbrev formed : tie.After-write-exact → tie.After-numerators
 formed c = c .before .before .before
 
-abbrev scaled : tie.After-scale → tie.After-write-exact
-scaled c = c .before .before .before .before
+abbrev accepted : tie.After-numerators → tie.Else1
+accepted c = c .before .before .before
 
 -- what the judgement says there
 fine : (c : tie.Else1) → Composable (rq (begun c))
@@ -40,22 +34,21 @@ fine c =
 room : (c : tie.Else1) → Room (rq (begun c)) (length (begun c .args .exact .now)) (length (begun c .args .points .now)) (c .before .before .judge .result .count)
 room c = room-for (rq (begun c)) (begun c .args .age .0) _ _ (c .before .before .judge .result) (c .before .before .judge .ensures) (c .if1 .left)
 
--- and what the scale is
-scale-is : (c : tie.After-scale) → c .scale .result ≡ 1024 ^ degree (rq (begun (judged (formed (scaled c)))) .head)
-scale-is c = c .scale .ensures ∙ ap (λ n. 1024 ^ n) (c .before .degree .ensures)
-
 judge-requires : tie.Need-judge-requires
 judge-requires c κs = search needs
 
 returns : tie.Need-returns
 returns c = refused-result (rq (c .before .before .before)) _ _ _ _ (c .before .before .judge .ensures) (c .if1 .taken)
 
+table-requires : tie.Need-table-requires
+table-requires c κs = search needs
+
 numerators-requires : tie.Need-numerators-requires
-numerators-requires c κs = fine c
+numerators-requires c κs = (c .before .table .ensures, fine (c .before .before))
 
 write-exact-requires : tie.Need-write-exact-requires
 write-exact-requires c κs =
-    let r = room (judged (c .before .before)) in
+    let r = room (accepted (c .before .before)) in
     let most = r .most in
     let enough = r .exact-room in
     (omega arith, omega arith)
@@ -63,15 +56,17 @@ write-exact-requires c κs =
 degree-requires : tie.Need-degree-requires
 degree-requires c κs = search needs
 
-scale-requires : tie.Need-scale-requires
-scale-requires c κs = rw (c .degree .ensures) (degree-most _ (fine (judged (formed (c .before .before .before))) .small))
-
 write-points-requires : tie.Need-write-points-requires
 write-points-requires c κs =
-    let n = formed (scaled (c .before)) in
-    let r = room (judged n) in
-    let some = r .is in
-    (omega arith, r .points-room, all-roundable _ _ _ _ (fine (judged n)) (n .numerators .ensures) (scale-is (c .before)) (r .is) (r .most))
+    let w = c .before .before .before .before .before in
+    let n = formed w in
+    let o = accepted n in
+    let r = room o in (
+      n .before .before .table .ensures,
+      let i = r .is in omega arith,
+      r .points-room,
+      points-at (rq (begun o)) _ _ _ (fine o) (n .numerators .ensures) (c .before .before .before .degree .ensures) (r .is) (r .most),
+    )
 
 same-length : tie.Need-same-length
 same-length c = search needs
@@ -81,12 +76,11 @@ same-length-2 c = search needs
 
 returns-2 : tie.Need-returns-2
 returns-2 c =
-    let s = c .before .before .before in
-    let w = scaled s in
+    let w = c .before .before .before .before .before .before .before in
     let n = formed w in
-    let j = judged n in
-    accepted-result (rq (begun j)) _ _ _ (fine j) (n .numerators .ensures) (scale-is s) (room j .is)
-    _ _ _ _ (j .before .before .judge .ensures) refl _ _ (w .write-exact .ensures) (c .before .write-points .ensures)
+    let o = accepted n in
+    accepted-result (rq (begun o)) _ _ _ (fine o) (n .numerators .ensures) (c .before .before .before .before .before .degree .ensures) (room o .is)
+    _ _ _ _ (o .before .before .judge .ensures) refl _ _ (w .write-exact .ensures) (c .before .write-points .ensures)
 
 pub compose-spec : {M : Type 1} → statement M
 compose-spec =
@@ -94,10 +88,10 @@ compose-spec =
     (tie.spec
     judge-requires
     returns
+    table-requires
     numerators-requires
     write-exact-requires
     degree-requires
-    scale-requires
     write-points-requires
     same-length
     same-length-2

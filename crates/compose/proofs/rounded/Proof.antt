@@ -1,32 +1,54 @@
--- `compose::rounded` meets its contract: the denominator fits, and the point is a travel. Assumes nothing.
-use mathlib.Core.Path.{_≡_, _∙_}
-use native.Mathlib.Nat.{mul-le-mul, lt-of-le-of-lt}
-use lib.Dec.{lit<}
+-- `compose::rounded` meets its contract: the denominator is the table's, and the point is a travel. Assumes nothing.
+use mathlib.Core.Path.{_≡_, _∙_, subst}
+use mathlib.Core.List.{List}
+use Prim.Native.Nat.{ℕ, _+_, _-_, _*_, _^_, _≤_, _<_}
+use native.Mathlib.Nat.{mul-pos, one-le-pow}
+use native.Mathlib.Omega.{arith}
+use lib.IntN.{ℤ, pos, natAbs}
+use lib.ListN.{getD}
 use borrow.Author.Needs.{needs}
-use Rattle.whole.specs.Round.{nearest}
+use Rattle.whole.specs.Choose.{choose}
+use Rattle.whole.proofs.Rounding.{nearest-size}
 use Rattle.pascal.proofs.Entries.{entry-in, entry-bound}
-use Rattle.compose.specs.Contract.{roundedAt}
+use Rattle.net.proofs.Rounded.{choose-some}
+use Rattle.compose.specs.Contract.{roundedAt, PointAt}
 use Rattle.compose.proofs.rounded.Statement.{statement}
 use Rattle.compose.proofs.rounded.Tie as tie
 
-value : (c : tie.After-nearest) → c .nearest .result .0 ≡ roundedAt (c .before .before .before .args .from .now) (c .before .before .before .args .L) (c .before .before .before .args .scale) (c .before .before .before .args .R)
+some : (L R : ℕ) → R ≤ L → 0 < choose L R
+some L R h = let e : R + (L - R) ≡ L = omega arith in subst (λ n. 0 < choose n R) e (choose-some R (L - R))
+
+-- the binomial that was read
+read : (c : tie.After-binomial) → c .binomial .result ≡ choose (c .before .args .L) (c .before .args .R)
+read c = c .binomial .ensures ∙ entry-in (c .before .args .L) (c .before .args .R) (c .before .pre .1 .row)
+
+travels : (from : List ℤ) (L r R : ℕ) → PointAt from L r R → natAbs (roundedAt from L r R) ≤ 4096
 unfolding roundedAt
-value c = c .nearest .ensures ∙ rw (c .before .numerator-at .ensures, c .before .before .binomial .ensures, entry-in (c .before .before .before .args .L) (c .before .before .before .args .R) (c .before .before .before .pre .row))
+travels from L r R p = nearest-size (getD from R (pos 0)) (choose L R * 1024 ^ r) 4096 (mul-pos (some L R (p .here)) (one-le-pow r 1024 (omega arith))) (p .within)
 
 binomial-requires : tie.Need-binomial-requires
-binomial-requires c κs = search needs
-
-mul-d : tie.Need-mul-d
-mul-d c = record { fits = lt-of-le-of-lt (mul-le-mul {n₂ = 924} (rw (c .binomial .ensures) (entry-bound _ _)) (c .before .pre .few)) (lit< tt) }
+binomial-requires c κs = c .pre .0
 
 numerator-at-requires : tie.Need-numerator-at-requires
 numerator-at-requires c κs = search needs
 
-nearest-requires : tie.Need-nearest-requires
-nearest-requires c κs = search needs
+rounded-requires : tie.Need-rounded-requires
+rounded-requires c κs =
+    let b = c .before in
+    let p = b .before .pre .1 in
+    record {
+      few = p .few;
+      some = rw (read b) (some _ _ (p .here));
+      most = rw (b .binomial .ensures) (entry-bound _ _);
+      within = rw (read b, c .numerator-at .ensures) (p .within);
+    }
+
+value : (c : tie.After-rounded) → c .rounded .result .0 ≡ roundedAt (c .before .before .before .args .from .now) (c .before .before .before .args .L) (c .before .before .before .args .r) (c .before .before .before .args .R)
+unfolding roundedAt
+value c = c .rounded .ensures ∙ rw (c .before .numerator-at .ensures, read (c .before .before))
 
 travel-of-requires : tie.Need-travel-of-requires
-travel-of-requires c κs = rw (value c) (c .before .before .before .pre .most)
+travel-of-requires c κs = rw (value c) (travels _ _ _ _ (c .before .before .before .pre .1))
 
 returns : tie.Need-returns
 returns c = c .travel-of .ensures ∙ value (c .before)
@@ -36,8 +58,7 @@ rounded-spec =
     tie.close
     (tie.spec
     binomial-requires
-    mul-d
     numerator-at-requires
-    nearest-requires
+    rounded-requires
     travel-of-requires
     returns)

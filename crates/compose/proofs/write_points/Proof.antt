@@ -11,10 +11,10 @@ use Rattle.compose.proofs.write_points.Statement.{statement}
 use Rattle.compose.proofs.write_points.Tie as tie
 
 abbrev Inv-loop : tie.InvT-loop
-Inv-loop from scale count points₀ R₀ points R = (R ≤ count) × (length points ≡ length points₀) × (points ≡ afterwards R (roundedAt from (count - 1) scale) points₀)
+Inv-loop table from r count points₀ R₀ points R = (R ≤ count) × (length points ≡ length points₀) × (points ≡ afterwards R (roundedAt from (count - 1) r) points₀)
 
 abbrev μ-loop : tie.MeasureT-loop
-μ-loop from scale count points₀ R₀ points R = count - R
+μ-loop table from r count points₀ R₀ points R = count - R
 
 loop-holds : tie.Need-loop-holds Inv-loop μ-loop
 loop-holds c = (omega arith, refl, sym (afterwards-none _ _))
@@ -23,7 +23,10 @@ sub-rounded : tie.Need-sub-rounded Inv-loop μ-loop
 sub-rounded c = omega arith
 
 rounded-requires : tie.Need-rounded-requires Inv-loop μ-loop
-rounded-requires c κs = let a = c .before .before .before .pre .2 in record { row = let r = a .row in omega arith; here = omega arith; few = a .few; most = a .most _ (omega arith) }
+rounded-requires c κs =
+    let p = c .before .before .before .pre in
+    let a = p .3 in
+    (p .0, record { row = let m = a .row in omega arith; here = omega arith; few = a .few; within = a .within _ (omega arith) })
 
 put-point-requires : tie.Need-put-point-requires Inv-loop μ-loop
 put-point-requires c κs = omega arith
@@ -40,7 +43,7 @@ loop-again c =
     let i = c .before .before .before .before .before .loop .inv in (
       omega arith,
       rw e (simp length-set (i .1)),
-      e ∙ ap (λ l. set l (c .before .before .before .before .before .loop .R) (c .before .before .rounded .result .0)) (i .2) ∙ afterwards-more (c .before .before .before .before .before .loop .R) (roundedAt (c .before .before .before .before .before .before .args .from .now) (c .before .before .before .before .before .before .args .count - 1) (c .before .before .before .before .before .before .args .scale)) (c .before .before .before .before .before .before .args .points .now) _ (omega arith) (c .before .before .rounded .ensures),
+      e ∙ ap (λ l. set l (c .before .before .before .before .before .loop .R) (c .before .before .rounded .result .0)) (i .2) ∙ afterwards-more (c .before .before .before .before .before .loop .R) (roundedAt (c .before .before .before .before .before .before .args .from .now) (c .before .before .before .before .before .before .args .count - 1) (c .before .before .before .before .before .before .args .r)) (c .before .before .before .before .before .before .args .points .now) _ (omega arith) (c .before .before .rounded .ensures),
     )
 
 same-length : tie.Need-same-length Inv-loop μ-loop
@@ -49,7 +52,7 @@ same-length c = c .before .loop .inv .1
 returns : tie.Need-returns Inv-loop μ-loop
 returns c =
     let e : c .before .loop .R ≡ c .before .before .args .count = omega arith in
-    c .before .loop .inv .2 ∙ ap (λ n. afterwards n (roundedAt (c .before .before .args .from .now) (c .before .before .args .count - 1) (c .before .before .args .scale)) (c .before .before .args .points .now)) e
+    c .before .loop .inv .2 ∙ ap (λ n. afterwards n (roundedAt (c .before .before .args .from .now) (c .before .before .args .count - 1) (c .before .before .args .r)) (c .before .before .args .points .now)) e
 
 pub write-points-spec : {M : Type 1} → statement M
 write-points-spec =

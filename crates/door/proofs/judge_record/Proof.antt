@@ -9,12 +9,13 @@ use lib.ListN.{length, drop}
 use borrow.Author.Needs.{needs}
 use borrow.Author.Tests.{eqb-true, not-false}
 use Rattle.units.specs.Bounds.{stale}
+use Rattle.request.specs.Head.{mostPoints}
 use Rattle.request.specs.declared.Answer.{Answer}
 use Rattle.request.specs.Cascade.{first, decided}
 use Rattle.request.specs.Refusal.{notKind, notDegree, answer}
 use Rattle.request.proofs.Cascade.{here, past, end}
 use Rattle.door.specs.Record.{headIn, startIn, ageIn, bodyEnd, requestIn}
-use Rattle.door.specs.Judgement.{mostPoints, notFrame, notBody, doorRefusals, judged}
+use Rattle.door.specs.Judgement.{notFrame, notBody, doorRefusals, judged}
 use Rattle.door.proofs.Order.{refused-given, frame-long, frame-starts}
 use Rattle.door.proofs.Sizes.{start-most}
 use Rattle.door.proofs.judge_record.Statement.{statement}

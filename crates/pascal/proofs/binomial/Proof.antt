@@ -1,10 +1,7 @@
--- `pascal::binomial` meets its contract: its table passes the test of a triangle, which is computed here, once.
--- Assumes nothing.
+-- `pascal::binomial` meets its contract: a number of the table, or 0 where it has none. Assumes nothing.
 use mathlib.Core.Path.{_∙_, sym}
 use native.Mathlib.Omega.{arith}
 use Rattle.whole.proofs.Binomial.{choose-above}
-use Rattle.pascal.specs.Entry.{lastRow}
-use Rattle.pascal.proofs.Triangle.{holds}
 use Rattle.pascal.proofs.Entries.{entry-in, entry-past}
 use Rattle.pascal.proofs.binomial.Statement.{statement}
 use Rattle.pascal.proofs.binomial.Tie as tie
@@ -22,9 +19,9 @@ cell-requires c κs = omega arith
 
 returns-3 : tie.Need-returns-3
 returns-3 c =
-    let a = c .before .before .before .before .args in
+    let a = c .before .before .before .args in
     c .cell .ensures
-    ∙ holds {last = lastRow} (record { left = tt; right = tt; sums = tt }) (a .n) (a .k) (omega arith) (omega arith)
+    ∙ c .before .before .before .pre .each (a .n) (a .k) (omega arith) (omega arith)
     ∙ sym (entry-in (a .n) (a .k) (omega arith))
 
 pub binomial-spec : {M : Type 1} → statement M

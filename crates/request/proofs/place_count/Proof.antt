@@ -1,15 +1,15 @@
--- `request::place_count` meets its contract: r is at most 4 and N at most 3, so L fits. Assumes nothing.
+-- `request::place_count` meets its contract: r and N are bounded, so L fits. Assumes nothing.
 use Prim.Native.Nat.{_*_, _≤_}
 use native.Mathlib.Nat.{mul-le-mul}
 use native.Mathlib.Omega.{arith}
 use borrow.Author.Needs.{needs}
-use Rattle.request.specs.Head.{longest}
+use Rattle.request.specs.Head.{mostDegree, mostN, longest}
 use Rattle.request.proofs.Forms.{small, degree-most}
 use Rattle.request.proofs.place_count.Statement.{statement}
 use Rattle.request.proofs.place_count.Tie as tie
 
--- r·N is at most 12
-product : (c : tie.After-struct-known) → c .before .degree .result * c .before .before .args .head .N ≤ 4 * 3
+-- r·N is at most the greatest L
+product : (c : tie.After-struct-known) → c .before .degree .result * c .before .before .args .head .N ≤ mostDegree * mostN
 product c =
     let s = small _ (c .before .before .pre) in
     rw (c .before .degree .ensures) (mul-le-mul (degree-most _ (c .before .before .pre)) (s .N-most))

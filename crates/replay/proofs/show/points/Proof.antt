@@ -28,12 +28,18 @@ add-if3 : tie.Need-add-if3
 add-if3 c = search needs
 
 returns-3 : tie.Need-returns-3
-returns-3 c = (other-length _ _ (c .before .before .before .before .before .word-at .ensures .0) (omega arith) (omega arith)
-    (omega arith), omega arith)
+returns-3 c = (
+  other-length _ _ (c .before .before .before .before .before .word-at .ensures .0) (omega arith) (omega arith)
+      (omega arith),
+  omega arith,
+)
 
 returns-4 : tie.Need-returns-4
-returns-4 c = (c .before .byte-at2 .ensures .0 ∙ so-many _ _ (c .before .before .before .before .before .word-at .ensures .0)
-    (omega arith) (omega arith) (omega arith), omega arith)
+returns-4 c = (
+  c .before .byte-at2 .ensures .0 ∙ so-many _ _ (c .before .before .before .before .before .word-at .ensures .0)
+      (omega arith) (omega arith) (omega arith),
+  omega arith,
+)
 
 pub points-spec : {M : Type 1} → statement M
 points-spec =

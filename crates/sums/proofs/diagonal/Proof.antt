@@ -1,0 +1,28 @@
+-- `sums::diagonal` meets its contract: it is the definition, test by test. Assumes nothing.
+use borrow.Author.Tests.{lt-ltb, le-ltb}
+use Rattle.sums.specs.Layout.{diagonal}
+use Rattle.sums.proofs.diagonal.Statement.{statement}
+use Rattle.sums.proofs.diagonal.Tie as tie
+
+returns : tie.Need-returns
+unfolding diagonal
+returns c = rw (lt-ltb _ _ (c .if1 .taken))
+
+returns-2 : tie.Need-returns-2
+unfolding diagonal
+returns-2 c = rw (le-ltb _ _ (c .before .if1 .left), lt-ltb _ _ (c .if2 .taken))
+
+returns-3 : tie.Need-returns-3
+unfolding diagonal
+returns-3 c = rw (le-ltb _ _ (c .before .before .if1 .left), le-ltb _ _ (c .before .if2 .left), lt-ltb _ _ (c .if3 .taken))
+
+returns-4 : tie.Need-returns-4
+unfolding diagonal
+returns-4 c = rw (le-ltb _ _ (c .before .before .before .if1 .left), le-ltb _ _ (c .before .before .if2 .left), le-ltb _ _ (c .before .if3 .left), lt-ltb _ _ (c .if4 .taken))
+
+returns-5 : tie.Need-returns-5
+unfolding diagonal
+returns-5 c = rw (le-ltb _ _ (c .before .before .before .if1 .left), le-ltb _ _ (c .before .before .if2 .left), le-ltb _ _ (c .before .if3 .left), le-ltb _ _ (c .if4 .left))
+
+pub diagonal-spec : {M : Type 1} → statement M
+diagonal-spec = tie.close (tie.spec returns returns-2 returns-3 returns-4 returns-5)

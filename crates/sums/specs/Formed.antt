@@ -1,0 +1,20 @@
+-- How many net entries the sum forms: G's count where there is one group, and a bound for all. Assumes nothing.
+use mathlib.Core.Path.{_≡_}
+use mathlib.Core.Bool.{Bool, cond}
+use mathlib.Core.List.{List}
+use Prim.Native.Nat.{ℕ, zero, suc, _+_, _*_, _≤_}
+use lib.ListN.{drop}
+use Rattle.runs.specs.Tree.{formed}
+use Rattle.sums.specs.Table.{termsOf}
+
+-- K of ticket 7: 1 for a row, 2 for a triangle
+abbrev pub kind : Bool → ℕ
+kind row = cond row 1 2
+
+unfoldable pub mostFormed : ℕ → ℕ
+mostFormed zero = 0
+mostFormed (suc l) = 10 * (15 + mostFormed l)
+
+pub record Counted (t : List ℕ) (count K second left from r : ℕ) : Type 0 where
+  pub one : second ≡ 0 → r ≡ formed K (drop from (termsOf t count 0)) left
+  pub most : r ≤ mostFormed left
