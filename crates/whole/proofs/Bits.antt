@@ -3,18 +3,19 @@
 -- Assumes nothing.
 use mathlib.Core.Path.{_≡_, refl, sym, _∙_, ap, ap₂}
 use mathlib.Core.Bool.{true, false, not, true≢false}
-use Prim.Native.Nat.{ℕ, zero, suc, _+_, _-_, _/_, _%_, _^_, _≤_, _<_}
-use native.Mathlib.Nat.{zero-add, div-le-self, mod-le}
+use Prim.Native.Nat.{ℕ, zero, suc, _+_, _*_, _-_, _/_, _%_, _^_, _≤_, _<_}
+use native.Mathlib.Nat.{zero-add, mul-comm, div-add-mod, div-le-self, mod-le}
 use native.Mathlib.Numerals.{add-one}
 use native.Mathlib.Omega.{arith}
 use lib.Dec.{T}
-use lib.IntN.{ℤ, pos, negsuc, negℤ, natAbs, _+ℤ_, _-ℤ_, +ℤ-comm, -ℤ-one, negℤ-+ℤ}
-use lib.Signed.{mag, nonNeg, ltZ, quotZ, remZ}
+use lib.IntN.{ℤ, pos, negsuc, negℤ, natAbs, _+ℤ_, _-ℤ_, _*ℤ_, +ℤ-comm, +ℤ-negℤ-cancel, -ℤ-one, negℤ-+ℤ, pos-*ℤ-pos}
+use lib.Signed.{mag, nonNeg, ltZ, quotZ}
 use borrow.Author.Tests.{le-ltb}
 use mir.Syntax.{w64}
 use mir.Val.{Fits, SFits, toZ, ofZ}
 use mir.Facts.{toZ-ofZ, toZ-pos}
 use Rattle.whole.specs.Round.{onSideOf}
+use Rattle.whole.proofs.Ring.{negℤ-*ℤ}
 
 fits-size : (z : ℤ) → natAbs z < 2 ^ 63 → SFits w64 z
 fits-size (pos n) h = record { sfits = h }
@@ -114,6 +115,19 @@ beside n x h m e =
     let f = side-fits n x h m in
     record { fits = rw e (record { sfits = f }); is = ap again e ∙ again-is (onSideOf n x) f }
 
+-- d times a number, and a number less a part of it, each on n's side
+side-times : (n : ℤ) (x d : ℕ) → onSideOf n x *ℤ pos d ≡ onSideOf n (x * d)
+unfolding onSideOf
+side-times (pos a) x d = pos-*ℤ-pos x d
+side-times (negsuc a) x d = negℤ-*ℤ (pos x) (pos d) ∙ ap negℤ (pos-*ℤ-pos x d)
+
+side-left : (n : ℤ) (x y : ℕ) → natAbs n ≡ x + y → n -ℤ onSideOf n y ≡ onSideOf n x
+unfolding onSideOf
+side-left (pos a) x y e = ap (λ (b : ℕ). pos b -ℤ pos y) e ∙ +ℤ-negℤ-cancel (pos x) (pos y)
+side-left (negsuc a) x y e =
+    ap (λ (b : ℕ). negℤ (pos b) -ℤ negℤ (pos y)) e ∙ ap (λ z. z -ℤ negℤ (pos y)) (negℤ-+ℤ (pos x) (pos y))
+    ∙ +ℤ-negℤ-cancel (negℤ (pos x)) (negℤ (pos y))
+
 -- what division by d gives
 module _ (n : ℤ) (d : ℕ) (h : mag n < 2 ^ 63) (few : d < 2 ^ 63) where
   pub quotient-written : Written (quotZ (again n) (toZ w64 d)) (onSideOf n (natAbs n / d))
@@ -124,13 +138,17 @@ module _ (n : ℤ) (d : ℕ) (h : mag n < 2 ^ 63) (few : d < 2 ^ 63) where
       cut (pos a) = refl
       cut (negsuc a) = refl
 
-  pub remainder-written : Written (remZ (again n) (toZ w64 d)) (onSideOf n (natAbs n % d))
-  unfolding onSideOf
-  remainder-written = beside n _ h (mod-le (natAbs n) d) (ap₂ remZ (again-is n h) (toZ-pos w64 few) ∙ left n)
-    where
-      left : (n : ℤ) → remZ n (pos d) ≡ onSideOf n (natAbs n % d)
-      left (pos a) = refl
-      left (negsuc a) = refl
+  -- and what the quotient leaves, by its product with d
+  module _ (q : ℤ) (k : mag q < 2 ^ 63) (e : q ≡ onSideOf n (natAbs n / d)) where
+    pub product-written : Written (again q *ℤ toZ w64 d) (onSideOf n (natAbs n / d * d))
+    product-written =
+        let most : natAbs n / d * d ≤ natAbs n = omega (arith, mul-comm (natAbs n / d) d, div-add-mod (natAbs n) d) in
+        beside n _ h most (ap₂ _*ℤ_ (again-is q k ∙ e) (toZ-pos w64 few) ∙ side-times n (natAbs n / d) d)
+
+    pub left-written : Written (again n -ℤ again (again q *ℤ toZ w64 d)) (onSideOf n (natAbs n % d))
+    left-written =
+        let all : natAbs n ≡ natAbs n % d + natAbs n / d * d = omega (arith, mul-comm (natAbs n / d) d, div-add-mod (natAbs n) d) in
+        beside n _ h (mod-le (natAbs n) d) (ap₂ (λ x y. x -ℤ y) (again-is n h) (product-written .is) ∙ side-left n _ _ all)
 
 -- one further from zero than q, which is on n's side and not yet as far
 module _ (n q : ℤ) (h : mag n < 2 ^ 63) (k : mag q < 2 ^ 63) (e : q ≡ onSideOf n (natAbs q)) (m : natAbs q < natAbs n) where

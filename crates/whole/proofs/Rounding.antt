@@ -29,6 +29,9 @@ table =
     ∷ (pos 0, 2, pos 0)
     ∷ (pos (2 ^ 63 - 1), 1, pos (2 ^ 63 - 1))
     ∷ (negsuc (2 ^ 63 - 1), 1, negsuc (2 ^ 63 - 1))
+    ∷ (pos (2 ^ 63 - 1), 2, pos (2 ^ 62))
+    ∷ (negsuc (2 ^ 63 - 2), 2, negsuc (2 ^ 62 - 1))
+    ∷ (negsuc (2 ^ 63 - 1), 2 ^ 63, negsuc 0)
     ∷ (pos (2 ^ 63 - 1), 2 ^ 64 - 1, pos 0)
     ∷ (negsuc (2 ^ 63 - 1), 2 ^ 64 - 1, negsuc 0)
     ∷ []

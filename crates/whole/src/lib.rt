@@ -72,12 +72,13 @@ fn quotient(n: Num, d: u64) -> Num
     Num(n.0 / d as i64)
 }
 
-// What is left of n, on its side of zero.
-fn remainder(n: Num, d: u64) -> Num
-    requires { ⌜ (0 < d) × (d < 2 ^ 63) ⌝ }
+// What the quotient leaves of n, from the product and not by dividing again: on n's side of zero.
+fn left(n: Num, d: u64, q: Num) -> Num
+    requires { ⌜ (d < 2 ^ 63) × (q .0 ≡ onSideOf (n .0) (natAbs (n .0) / d)) ⌝ }
     ensures { λ r. ⌜ r .0 ≡ onSideOf (n .0) (natAbs (n .0) % d) ⌝ }
 {
-    Num(n.0 % d as i64)
+    let all = n.0;
+    Num(all - q.0 * d as i64)
 }
 
 // From q one further from zero, on n's side.
@@ -108,5 +109,6 @@ pub fn nearest(n: Num, d: u64) -> Num
     if d > LARGEST {
         return settled(n, d, plus(0), size(n));
     }
-    settled(n, d, quotient(n, d), size(remainder(n, d)))
+    let q = quotient(n, d);
+    settled(n, d, q, size(left(n, d, q)))
 }

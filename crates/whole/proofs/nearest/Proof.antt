@@ -33,8 +33,8 @@ returns-2 c = search needs
 quotient-requires : tie.Need-quotient-requires
 quotient-requires c κs = omega arith
 
-remainder-requires : tie.Need-remainder-requires
-remainder-requires c κs = omega arith
+left-requires : tie.Need-left-requires
+left-requires c κs = (omega arith, c .quotient .ensures)
 
 size-requires-2 : tie.Need-size-requires-2
 size-requires-2 c κs = search needs
@@ -42,7 +42,7 @@ size-requires-2 c κs = search needs
 settled-requires-2 : tie.Need-settled-requires-2
 settled-requires-2 c κs =
     let a = c .before .before .before .before .before .args in
-    rw (c .before .before .quotient .ensures, c .size2 .ensures .0, c .before .remainder .ensures) (by-division (a .n .0) (a .d) (omega arith))
+    rw (c .before .before .quotient .ensures, c .size2 .ensures .0, c .before .left .ensures) (by-division (a .n .0) (a .d) (omega arith))
 
 returns-3 : tie.Need-returns-3
 returns-3 c = search needs
@@ -58,7 +58,7 @@ nearest-spec =
     settled-requires
     returns-2
     quotient-requires
-    remainder-requires
+    left-requires
     size-requires-2
     settled-requires-2
     returns-3)
