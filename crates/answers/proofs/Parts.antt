@@ -1,43 +1,32 @@
--- Laws of the answers: the composer's answer as a line, what was read as a request, and the cases of a line. Assumes nothing.
+-- Laws of the answers: what was read as a request, and the cases of a line. Assumes nothing.
 use mathlib.Core.Path.{_≡_, refl, sym, ap, _∙_}
+use mathlib.Core.Logic.{⊎-elim}
 use mathlib.Core.Bool.{Bool, true, false, cond}
-use mathlib.Core.List.{List, [], _∷_}
-use Prim.Native.Nat.{ℕ, zero, suc, _≤_, _<_}
+use mathlib.Core.List.{List, []}
+use Prim.Native.Nat.{ℕ, suc, _≤_, _<_}
 use native.Mathlib.Omega.{arith}
 use lib.IntN.{ℤ, pos}
 use lib.Dec.{eqb}
 use lib.ListN.{length, getD, take, drop, replicate}
 use lib.Seq.{sets, length-sets, drop-cons}
 use borrow.Author.Tests.{eq-eqb, ne-eqb, lt-ltb, le-ltb}
-use Rattle.request.specs.declared.Answer.{Answer}
-use Rattle.request.specs.Request.{Request}
-use Rattle.compose.specs.Contract.{Composed}
-use Rattle.text.specs.Line.{Said, said, isPassed}
+use Rattle.words.specs.Words.{every}
+use Rattle.words.specs.declared.Cursor.{Cursor}
+use Rattle.pieces.specs.Kept.{isPassed, isText, Cut, cutAt, Cuts}
+use Rattle.pieces.proofs.Keeping.{kept-whole}
+use Rattle.pieces.specs.declared.Piece.{Piece}
+use Rattle.text.specs.Line.{said}
 use Rattle.text.specs.Read.{ReadsLine}
-use Rattle.text.specs.Kept.{Cut, cutAt, Cuts}
-use Rattle.text.specs.declared.Cursor.{Cursor}
+use Rattle.text.proofs.Readers.{said-overlong}
 use Rattle.text.specs.declared.Reading.{Reading}
-use Rattle.text.specs.declared.lines.Piece.{Piece}
-use Rattle.spell.specs.Decimal.{answerLine, Front}
+use Rattle.spell.specs.Decimal.{Front}
 use Rattle.spell.proofs.Writing.{front-read}
-use Rattle.answers.specs.Answer.{shown, replyOf, lineOf, unreadable, answerOf, complaint, complaintOf}
-use Rattle.answers.specs.Contract.{Fits, lineIn, Says, enough, nextRow, Takes}
+use Rattle.tell.specs.Tell.{unreadable, complaint}
+use Rattle.reply.specs.Reply.{Fits, lineIn}
+use Rattle.answers.specs.Answer.{lineOf, answerOf, complaintOf}
+use Rattle.answers.specs.Contract.{Says, enough, nextRow, Takes}
 use Rattle.answers.specs.declared.lines.Lines.{Lines}
 use Rattle.answers.specs.declared.lines.Taken.{Taken}
-
--- the composer's answer, with both arrays as it leaves them, in the places that are shown
-pub replied : (rq : Request) (age : ℕ) (given : Bool) (exact points : List ℤ) (a : Answer) (exact′ points′ : List ℤ) (c d : ℕ)
-    → Composed rq age exact points a exact′ points′
-    → length exact′ ≡ length exact → length points′ ≡ length points
-    → c ≡ shown given (a .count) (length exact′) → d ≡ shown given (a .count) (length points′)
-    → answerLine (a .number) (a .place) (a .count) (take c exact′) (take d points′) ≡ replyOf rq age given exact points
-unfolding replyOf
-replied rq age given exact points a exact′ points′ c d k e f p q = rw (p, q, e, f, k .exact-is, k .points-is, k .answered)
-
-pub take-replicate : (n m : ℕ) (z : ℤ) → n ≤ m → take n (replicate m z) ≡ replicate n z
-take-replicate zero m z l = refl
-take-replicate (suc n) zero z l = absurd (omega arith)
-take-replicate (suc n) (suc m) z l = ap (λ s. z ∷ s) (take-replicate n m z (omega arith))
 
 -- what was read into two arrays of zeros
 abbrev pub zeros : List ℤ
@@ -46,15 +35,15 @@ zeros = replicate 64 (pos 0)
 list-size : (k l : List ℤ) → l ≡ sets zeros 0 k → 64 ≡ length l
 list-size k l h = sym (ap length h ∙ length-sets zeros 0 k)
 
-module _ (line : List ℕ) (s : Said) (surface path : List ℤ) (r : Reading) (is : ReadsLine line s zeros zeros surface path r) where
+module _ (line : List ℕ) (surface path : List ℤ) (r : Reading) (is : ReadsLine line zeros zeros surface path r) where
   list-read : (k l : List ℤ) (n : ℕ) → n ≡ length k → n ≤ 64 → l ≡ sets zeros 0 k → take n l ≡ k
   list-read k l n e m h = rw (e, h) (front-read zeros k (omega arith))
 
   pub surface-size : 64 ≡ length surface
-  surface-size = list-size (s .surface) surface (is .surface-is)
+  surface-size = list-size (said line .surface) surface (is .surface-is)
 
   pub path-size : 64 ≡ length path
-  path-size = list-size (s .path) path (is .path-is)
+  path-size = list-size (said line .path) path (is .path-is)
 
   pub fits : (out : List ℕ) → 4096 ≤ length out → Fits r surface path out
   fits out m = record {
@@ -65,11 +54,11 @@ module _ (line : List ℕ) (s : Said) (surface path : List ℤ) (r : Reading) (i
     enough = m;
   }
 
-  pub line-is : lineIn r surface path ≡ lineOf s
+  pub line-is : lineIn r surface path ≡ lineOf (said line)
   unfolding lineIn lineOf
   line-is =
-      let surface-is = list-read (s .surface) surface (r .surface) (is .surface-count) (is .few-values) (is .surface-is) in
-      let path-is = list-read (s .path) path (r .path) (is .path-count) (is .few-numbers) (is .path-is) in
+      let surface-is = list-read (said line .surface) surface (r .surface) (is .surface-count) (is .few-values) (is .surface-is) in
+      let path-is = list-read (said line .path) path (r .path) (is .path-count) (is .few-numbers) (is .path-is) in
       rw (surface-is, path-is, is .head, is .age, is .rooms)
 
 -- nothing was written
@@ -166,3 +155,8 @@ takes-further part at l line out err line′ out′ err′ r t h = omega (arith,
 
     one : 0 < cutAt (length line) (take (l .kept) line) (drop at part) .read
     one = rw (drop-cons part at 0 h) (go (eqb (getD part at 0) 10) _ _)
+
+-- a line of any length says what is kept of it
+pub kept-says : (s : List ℕ) → every isText s ≡ true → said (cutAt 4097 [] s .kept) ≡ said s
+kept-says s t =
+    ⊎-elim (λ e. ap said e) (λ w. said-overlong _ (w .0) ∙ sym (said-overlong _ (w .1))) (kept-whole s t)

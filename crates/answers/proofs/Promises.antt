@@ -5,9 +5,10 @@ use mathlib.Core.Bool.{true}
 use mathlib.Core.List.{List, []}
 use Prim.Native.Nat.{ℕ}
 use Rattle.whole.proofs.Determined.{Determined}
-use Rattle.text.specs.Words.{every}
-use Rattle.text.specs.Kept.{isText, cutAt}
-use Rattle.text.proofs.Keeping.{kept-passed, kept-says}
+use Rattle.words.specs.Words.{every}
+use Rattle.pieces.specs.Kept.{isText, cutAt}
+use Rattle.pieces.proofs.Keeping.{kept-passed}
+use Rattle.answers.proofs.Parts.{kept-says}
 use Rattle.answers.specs.Answer.{answerOf}
 use Rattle.answers.specs.Contract.{Says, Takes}
 use Rattle.answers.specs.declared.Lengths.{Lengths}

@@ -4,40 +4,18 @@ use mathlib.Core.Bool.{cond}
 use mathlib.Core.List.{List, []}
 use Prim.Native.Nat.{ℕ, _+_, _≤_, min}
 use lib.Dec.{ltb}
-use lib.IntN.{ℤ}
 use lib.ListN.{length, take, drop}
 use lib.Seq.{sets}
-use Rattle.text.specs.Kept.{Cut, cutAt}
-use Rattle.text.specs.declared.Cursor.{Cursor}
-use Rattle.text.specs.declared.Reading.{Reading}
+use Rattle.pieces.specs.Kept.{Cut, cutAt}
 use Rattle.spell.specs.Decimal.{Front}
-use Rattle.answers.specs.Answer.{replyOf, exactLent, pointsLent, answerOf, complaintOf}
+use Rattle.answers.specs.Answer.{answerOf, complaintOf}
+use Rattle.answers.specs.declared.Lengths.{Lengths}
 use Rattle.answers.specs.declared.lines.Lines.{Lines}
 use Rattle.answers.specs.declared.lines.Taken.{Taken}
 
 -- so many bytes are enough for every answer and every complaint
 abbrev pub room : ℕ
 room = 8192
-
--- what was read, with its numbers at the front of two arrays, has an answer that fits
-pub record Fits (r : Reading) (surface path : List ℤ) (out : List ℕ) : Type 0 where
-  pub values : r .surface ≤ length surface
-  pub numbers : r .path ≤ length path
-  pub exact : r .rooms .exact ≤ 64
-  pub points : r .rooms .points ≤ 64
-  pub enough : 4096 ≤ length out
-
--- its answer line
-unfoldable pub lineIn : Reading → List ℤ → List ℤ → List ℕ
-lineIn r surface path =
-    replyOf (record { head = r .head; surface = take (r .surface) surface; path = take (r .path) path }) (r .age) (r .rooms .given)
-    (exactLent (r .rooms .exact)) (pointsLent (r .rooms .points))
-
--- the word at a cursor can be quoted
-pub record Quotable (line : List ℕ) (c : Cursor) : Type 0 where
-  pub order : c .start ≤ c .end
-  pub inside : c .end ≤ length line
-  pub short : c .end ≤ 4096
 
 -- an answer and a complaint were written to the front of two buffers, up to ends within them
 pub record Says (answer complaint out err out′ err′ : List ℕ) (m n : ℕ) : Type 0 where
@@ -49,6 +27,14 @@ pub record Says (answer complaint out err out′ err′ : List ℕ) (m n : ℕ) 
 -- nothing is written unless both buffers are large enough
 unfoldable pub enough : List ℕ → List ℕ → List ℕ → List ℕ
 enough out err bytes = cond (ltb (length out) room) [] (cond (ltb (length err) room) [] bytes)
+
+-- a line was answered; and the same where both buffers are large enough
+abbrev pub Answers : (line : List ℕ) (row : ℕ) (out err out′ err′ : List ℕ) (r : Lengths) → Type 0
+Answers line row out err out′ err′ r =
+    Says (enough out err (answerOf line)) (enough out err (complaintOf row line)) out err out′ err′ (r .answer) (r .complaint)
+
+abbrev pub SaysAll : (line : List ℕ) (row : ℕ) (out err out′ err′ : List ℕ) (r : Lengths) → Type 0
+SaysAll line row out err out′ err′ r = Says (answerOf line) (complaintOf row line) out err out′ err′ (r .answer) (r .complaint)
 
 -- the line after a line; the greatest number stays
 unfoldable pub nextRow : ℕ → ℕ

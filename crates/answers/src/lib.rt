@@ -1,19 +1,13 @@
 // The answers to request lines, as bytes: what is written to a line, what is told of a line that cannot be read, and the
 // lines of an input, out of parts of it. A program above reads parts, and writes what stands in the lent buffers.
 mod lines;
-mod reply;
-mod tell;
 
 ghost use Prim.Native.Nat.{_≤_};
 ghost use lib.ListN.{length};
-ghost use Rattle.answers.specs.Answer.{answerOf, complaintOf};
-ghost use Rattle.answers.specs.Contract.{room, enough, Says};
+ghost use Rattle.answers.specs.Contract.{room, SaysAll, Answers};
 pub use lines::Lines;
 pub use lines::Taken;
 pub use lines::take;
-use reply::reply;
-use spell::write_bytes;
-use tell::tell;
 
 // How many bytes of the answer and of the complaint were written.
 pub struct Lengths {
@@ -23,9 +17,9 @@ pub struct Lengths {
 
 fn say(line: &[u8], row: u64, out: &mut [u8], err: &mut [u8]) -> Lengths
     requires { ⌜ (room ≤ length (now out)) × (room ≤ length (now err)) ⌝ }
-    ensures { λ r. ⌜ Says (answerOf (now (line .entry))) (complaintOf row (now (line .entry))) (now (out .entry)) (now (err .entry)) (now (out .exit)) (now (err .exit)) (r .answer) (r .complaint) ⌝ }
+    ensures { λ r. ⌜ SaysAll (now (line .entry)) row (now (out .entry)) (now (err .entry)) (now (out .exit)) (now (err .exit)) r ⌝ }
 {
-    if text::is_passed(line) {
+    if pieces::is_passed(line) {
         return Lengths {
             answer: 0,
             complaint: 0,
@@ -37,12 +31,12 @@ fn say(line: &[u8], row: u64, out: &mut [u8], err: &mut [u8]) -> Lengths
     let cursor = reading.cursor;
     if cursor.wrong != 0 {
         return Lengths {
-            answer: write_bytes(b"unreadable\n", out, 0),
-            complaint: tell(line, cursor, row, err),
+            answer: tell::unreadable(out),
+            complaint: tell::tell(line, cursor, row, err),
         };
     }
     Lengths {
-        answer: reply(reading, &surface, &path, out),
+        answer: reply::reply(reading, &surface, &path, out),
         complaint: 0,
     }
 }
@@ -50,7 +44,7 @@ fn say(line: &[u8], row: u64, out: &mut [u8], err: &mut [u8]) -> Lengths
 // What is answered to a line, and what is told of it, to the front of the two lent buffers; nothing, where one of them has
 // less than 8192 bytes. `row` is the line's number.
 pub fn answer(line: &[u8], row: u64, out: &mut [u8], err: &mut [u8]) -> Lengths
-    ensures { λ r. ⌜ Says (enough (now (out .entry)) (now (err .entry)) (answerOf (now (line .entry)))) (enough (now (out .entry)) (now (err .entry)) (complaintOf row (now (line .entry)))) (now (out .entry)) (now (err .entry)) (now (out .exit)) (now (err .exit)) (r .answer) (r .complaint) ⌝ }
+    ensures { λ r. ⌜ Answers (now (line .entry)) row (now (out .entry)) (now (err .entry)) (now (out .exit)) (now (err .exit)) r ⌝ }
 {
     if out.len() < 8192 {
         return Lengths {

@@ -36,9 +36,10 @@ pub fn take(
     out: &mut [u8],
     err: &mut [u8],
 ) -> Taken
-    ensures { λ r. ⌜ Takes (now (part .entry)) at lines (now (line .entry)) (now (out .entry)) (now (err .entry)) (now (line .exit)) (now (out .exit)) (now (err .exit)) r ⌝ }
+    ensures { λ r. ⌜ Takes (now (part .entry)) at lines (now (line .entry)) (now (out .entry)) (now (err .entry))
+        (now (line .exit)) (now (out .exit)) (now (err .exit)) r ⌝ }
 {
-    let piece = text::cut(part, at, line, lines.kept);
+    let piece = pieces::cut(part, at, line, lines.kept);
     let kept = piece.kept;
     if !piece.ended {
         return Taken {

@@ -4,5 +4,12 @@ mod help;
 mod input;
 
 fn main() {
-    input::run();
+    let count = os::arg_count();
+    if 1 < count {
+        if help::is_asked() {
+            help::print();
+            return;
+        }
+    }
+    input::run(count);
 }

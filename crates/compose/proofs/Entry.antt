@@ -4,8 +4,8 @@ use mathlib.Core.Path.{_≡_, sym, ap, _∙_}
 use mathlib.Core.List.{List}
 use Prim.Native.Nat.{ℕ, _+_, _*_, _-_, _≤_}
 use native.Mathlib.Omega.{arith}
-use lib.IntN.{ℤ, pos}
-use lib.ListN.{length, getD}
+use lib.IntN.{ℤ}
+use lib.ListN.{length}
 use borrow.Author.Tests.{ltb-false}
 use Rattle.request.specs.declared.Answer.{Answer}
 use Rattle.request.specs.Head.{mostDegree, mostN, mostPoints, degree, longest}
@@ -17,9 +17,10 @@ use Rattle.request.proofs.Accepted.{Accepted, accepts, refusal-empty}
 use Rattle.net.specs.Composed.{numerator, denominator, point}
 use Rattle.net.specs.Sizes.{Composable}
 use Rattle.net.proofs.Bounds.{numerator-size}
-use Rattle.sums.specs.Contract.{Numerators}
+use Rattle.limbs.specs.Limbs.{worth}
+use Rattle.sums.specs.Contract.{Summed}
 use Rattle.compose.specs.Afterwards.{afterwards, exactAfter, pointsAfter}
-use Rattle.compose.specs.Contract.{Composed, roundedAt, PointsAt}
+use Rattle.compose.specs.Contract.{Composed, roundedAt, PointsAt, Written}
 use Rattle.compose.proofs.Written.{afterwards-none, afterwards-same}
 
 -- a refusal leaves everything as it was
@@ -65,32 +66,33 @@ room-for rq age e p a eq number =
     let y : longest (rq .head) + 1 ≤ p = ltb-false _ _ (r .1) in
     record { is = is; most = omega arith; exact-room = omega arith; points-room = omega arith }
 
-module _ (rq : Request) (nums : List ℤ) (r count : ℕ) (fine : Composable rq) (n : Numerators rq nums) (s : r ≡ degree (rq .head)) (c : count ≡ longest (rq .head) + 1) where
+module _ (rq : Request) (sums : List ℤ) (r count : ℕ) (fine : Composable rq) (n : Summed rq sums) (s : r ≡ degree (rq .head)) (c : count ≡ longest (rq .head) + 1) where
   -- L, as the count has it
   L : count - 1 ≡ longest (rq .head)
   L = omega arith
 
   -- what is rounded is the rounded point
-  rounds : (R : ℕ) → roundedAt nums (count - 1) r R ≡ point rq R
+  rounds : (R : ℕ) → roundedAt (worth sums R) (count - 1) r R ≡ point rq R
   unfolding roundedAt point denominator
   rounds R = rw (n .each R, L, s)
 
-  pub points-at : count ≤ mostPoints → PointsAt nums count r
+  pub points-at : count ≤ mostPoints → PointsAt sums count r
   unfolding denominator
   points-at m = record {
     row = m;
     few = rw s (degree-most (rq .head) (fine .small));
+    long = n .long;
+    fits = n .fits;
     within = λ R l. rw (n .each R, L, s) (numerator-size rq fine R);
   }
 
-  pub accepted-result : (age : ℕ) (exact points : List ℤ) (a : Answer) → a ≡ answer rq age (length exact) (length points) → a .count ≡ count → (exact′ points′ : List ℤ)
-      → exact′ ≡ afterwards count (λ R. getD nums R (pos 0)) exact → points′ ≡ afterwards count (roundedAt nums (count - 1) r) points
-      → Composed rq age exact points a exact′ points′
+  pub accepted-result : (age : ℕ) (exact points : List ℤ) (a : Answer) → a ≡ answer rq age (length exact) (length points) → a .count ≡ count
+      → (exact′ points′ : List ℤ) → Written sums r count exact points exact′ points′ → Composed rq age exact points a exact′ points′
   unfolding exactAfter pointsAfter
-  accepted-result age exact points a e k exact′ points′ f g =
+  accepted-result age exact points a e k exact′ points′ w =
       let t : answer rq age (length exact) (length points) .count ≡ count = ap (λ (b : Answer). b .count) (sym e) ∙ k in
       record {
         answered = e;
-        exact-is = f ∙ afterwards-same count _ (numerator rq) exact (λ R m. n .each R) ∙ ap (λ i. afterwards i (numerator rq) exact) (sym t);
-        points-is = g ∙ afterwards-same count _ (point rq) points (λ R m. rounds R) ∙ ap (λ i. afterwards i (point rq) points) (sym t);
+        exact-is = w .numbers ∙ afterwards-same count _ (numerator rq) exact (λ R m. n .each R) ∙ ap (λ i. afterwards i (numerator rq) exact) (sym t);
+        points-is = w .rounds ∙ afterwards-same count _ (point rq) points (λ R m. rounds R) ∙ ap (λ i. afterwards i (point rq) points) (sym t);
       }

@@ -1,25 +1,15 @@
 // The lean curve composer: document 01's public entry. A request is judged whole before anything is written; an accepted
 // one has its exact numerators and its rounded points written to the two lent arrays.
 ghost use mathlib.Core.Path.{_≡_};
-ghost use Prim.Native.Nat.{_-_, _≤_, _<_};
-ghost use lib.IntN.{pos};
-ghost use lib.ListN.{length, getD, set};
+ghost use Prim.Native.Nat.{_≤_, _<_};
+ghost use lib.ListN.{length, set};
 ghost use Rattle.pascal.specs.Entry.{Pascal};
-ghost use Rattle.compose.specs.Afterwards.{afterwards};
-ghost use Rattle.compose.specs.Contract.{Composed, roundedAt, PointAt, PointsAt};
+ghost use Rattle.compose.specs.Contract.{Composed, roundedAt, PointAt, PointsAt, Written};
 use request::Answer;
 use request::Head;
 use units::Age;
 use units::Travel;
 use whole::Num;
-
-// Numerator R of thirteen.
-fn numerator_at(from: &[i64; 13], R: usize) -> Num
-    requires { ⌜ R < 13 ⌝ }
-    ensures { λ r. ⌜ r .0 ≡ getD (now (from .entry)) R (pos 0) ⌝ }
-{
-    Num(from[R])
-}
 
 fn put_exact(exact: &mut [i64], R: usize, x: Num)
     requires { ⌜ R < length (now exact) ⌝ }
@@ -37,35 +27,33 @@ fn put_point(points: &mut [i32], R: usize, t: Travel)
     points[R] = v;
 }
 
-// The rounded point at R of a curve of degree L whose numerators are over binomial(L, R)·1024^r.
-fn rounded(table: &[u32; 91], from: &[i64; 13], L: usize, r: usize, R: usize) -> Travel
-    requires { ⌜ Pascal (now table) × PointAt (now from) L r R ⌝ }
-    ensures { λ t. ⌜ t .0 ≡ roundedAt (now (from .entry)) L r R ⌝ }
+// The rounded point at R of a curve of degree L whose numerator n is over binomial(L, R)·1024^r.
+fn rounded(table: &[u32; 91], n: Num, L: usize, r: usize, R: usize) -> Travel
+    requires { ⌜ Pascal (now table) × PointAt (n .0) L r R ⌝ }
+    ensures { λ t. ⌜ t .0 ≡ roundedAt (n .0) L r R ⌝ }
 {
     let d = pascal::binomial(table, L, R);
-    units::travel_of(limbs::rounded(numerator_at(from, R), d, r))
+    units::travel_of(limbs::rounded(n, d, r))
 }
 
-// Writes the first `count` numerators.
-fn write_exact(from: &[i64; 13], count: usize, exact: &mut [i64])
-    requires { ⌜ (count ≤ 13) × (count ≤ length (now exact)) ⌝ }
-    ensures { λ _. ⌜ now (exact .exit) ≡ afterwards count (λ R. getD (now (from .entry)) R (pos 0)) (now (exact .entry)) ⌝ }
+// Writes the first `count` numerators, each put together from its two limbs, and the points, each rounded.
+fn write(
+    table: &[u32; 91],
+    sums: &[i64],
+    r: usize,
+    count: usize,
+    exact: &mut [i64],
+    points: &mut [i32],
+)
+    requires { ⌜ Pascal (now table) × (0 < count) × (count ≤ length (now exact)) × (count ≤ length (now points)) × PointsAt (now sums) count r ⌝ }
+    ensures { λ _. ⌜ Written (now (sums .entry)) r count (now (exact .entry)) (now (points .entry)) (now (exact .exit)) (now (points .exit)) ⌝ }
 {
+    let L = count - 1;
     let mut R = 0;
     while R < count {
-        put_exact(exact, R, numerator_at(from, R));
-        R += 1;
-    }
-}
-
-// Writes the first `count` points, rounded.
-fn write_points(table: &[u32; 91], from: &[i64; 13], r: usize, count: usize, points: &mut [i32])
-    requires { ⌜ Pascal (now table) × (0 < count) × (count ≤ length (now points)) × PointsAt (now from) count r ⌝ }
-    ensures { λ _. ⌜ now (points .exit) ≡ afterwards count (roundedAt (now (from .entry)) (count - 1) r) (now (points .entry)) ⌝ }
-{
-    let mut R = 0;
-    while R < count {
-        put_point(points, R, rounded(table, from, count - 1, r, R));
+        let n = limbs::joined(sums, R);
+        put_exact(exact, R, n);
+        put_point(points, R, rounded(table, n, L, r, R));
         R += 1;
     }
 }
@@ -83,15 +71,15 @@ pub fn compose(
 ) -> Answer
     ensures { λ a. ⌜ Composed (record { head = head; surface = now (surface .entry); path = now (path .entry) }) (age .0) (now (exact .entry)) (now (points .entry)) a (now (exact .exit)) (now (points .exit)) ⌝ }
 {
-    let answer = request::judge(head, age, surface, path, exact.len(), points.len());
+    let answer = judge::judge(head, age, surface, path, exact.len(), points.len());
     if answer.number != 0 {
         return answer;
     }
     let count = answer.count;
     let table = pascal::table();
-    let numerators = sums::numerators(&table, head, surface, path);
-    write_exact(&numerators, count, exact);
+    let mut all = [0i64; 26];
+    sums::numerators(&table, head, surface, path, &mut all);
     let r = request::degree(head) as usize;
-    write_points(&table, &numerators, r, count, points);
+    write(&table, &all, r, count, exact, points);
     answer
 }

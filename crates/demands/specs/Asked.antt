@@ -18,18 +18,21 @@ use Rattle.request.proofs.Cascade.{here, past, end}
 use Rattle.compose.specs.Afterwards.{listBelow}
 use Rattle.compose.proofs.Written.{below-at, below-length}
 use Rattle.wire.specs.Words.{wordEnd, wordBytes, wordAt, numberBytes, numberAt}
-use Rattle.wire.specs.Start.{lengthField, kindField, recordStart, recordOf}
-use Rattle.door.specs.Record.{start, agedStart, headIn, isAged, startIn, ageIn, pathStart, bodyEnd, requestIn, headBytes, kindOf, ageBytes, requestRecord}
-use Rattle.door.specs.Judgement.{notOfKind, notFrame, notBody, doorRefusals, judged}
-use Rattle.door.specs.Parts.{AllShort}
+use Rattle.wire.specs.Start.{start, lengthField, kindField, recordStart, recordOf}
+use Rattle.judgement.specs.Record.{agedStart, headIn, isAged, startIn, ageIn, pathStart, bodyEnd, requestIn, headBytes, kindOf, ageBytes, requestRecord}
+use Rattle.judgement.specs.Judgement.{notOfKind, notFrame, notBody, doorRefusals, composed, judged}
+use Rattle.replies.specs.Parts.{AllShort}
 use Rattle.wire.proofs.Words.{numbers-length, number-read}
 
 -- numbers that were written are read again, all of them
-numbers-read : (before : List ℕ) (l : List ℤ) (rest : List ℕ) → AllShort l → listBelow (length l) (numberAt (before ++ (numberBytes l ++ rest)) (length before)) ≡ l
+numbers-read : (before : List ℕ) (l : List ℤ) (rest : List ℕ) → AllShort l
+    → listBelow (length l) (numberAt (before ++ (numberBytes l ++ rest)) (length before)) ≡ l
 numbers-read before l rest s =
     let f = numberAt (before ++ (numberBytes l ++ rest)) (length before) in
     ext-getD (pos 0) (listBelow (length l) f) l (below-length (length l) f)
-    (λ i m. let k : i < length l = rw (below-length (length l) f) at m in (rw append-nil at (below-at (length l) f [] i (pos 0) k)) ∙ number-read before l rest i k (s .each i k))
+    (λ i m.
+    let k : i < length l = rw (below-length (length l) f) at m in
+    (rw append-nil at (below-at (length l) f [] i (pos 0) k)) ∙ number-read before l rest i k (s .each i k))
 
 at-least : (b : Bool) → start ≤ cond b agedStart start
 at-least true = omega arith
@@ -79,7 +82,9 @@ module _ (rq : Request) where
   head-is age = refl
 
   record-length : (age : Option ℕ) → length (requestRecord rq age) ≡ startIn (requestRecord rq age) + 2 * length (rq .surface) + 2 * length (rq .path)
-  record-length age = ap length (by-surface age) ∙ rw (length-append, length-append, starts age, numbers-length (rq .surface), numbers-length (rq .path)) (omega arith)
+  record-length age =
+      let numbers = numbers-length (rq .surface) in
+      ap length (by-surface age) ∙ rw (length-append, length-append, starts age, numbers, numbers-length (rq .path)) (omega arith)
 
   long : (age : Option ℕ) → start ≤ startIn (requestRecord rq age)
   unfolding startIn
@@ -134,7 +139,7 @@ module _ (rq : Request) (age : Option ℕ) (ok : Askable rq) where
 
   -- behind KIND and DEGREE the door and the composer look at the age alike
   door : judged (requestRecord rq age)
-      ≡ decided (first (drop 3 (doorRefusals (requestRecord rq age)))) (answer (requestIn (requestRecord rq age)) (ageIn (requestRecord rq age)) mostPoints mostPoints)
+      ≡ decided (first (drop 3 (doorRefusals (requestRecord rq age)))) (composed (requestRecord rq age))
   unfolding judged doorRefusals
   door =
       let kind : notKind (headIn (requestRecord rq age)) ≡ false = rw (head-is rq age) (ok .kind) in

@@ -1,29 +1,32 @@
 -- The three demands on the lean curve, each of every result that the composer's contract allows, determinacy, and that port
 -- and starboard mirror. What the contract allows is in Rattle.compose.specs.Contract, the documents' words are in the
 -- definitions that are cited here. Assumes nothing.
-use mathlib.Core.Path.{_≡_, sym, ap, _∙_}
-use mathlib.Core.List.{List}
+use mathlib.Core.Path.{_≡_, refl, sym, ap, _∙_}
+use mathlib.Core.List.{List, [], _∷_}
 use mathlib.Core.Option.{none, some}
-use Prim.Native.Nat.{ℕ, _+_, _*_, _^_, _≤_, _<_}
+use Prim.Native.Nat.{ℕ, zero, suc, _+_, _*_, _^_, _≤_, _<_}
 use native.Mathlib.Omega.{arith}
-use lib.IntN.{ℤ, pos, negℤ, natAbs, _-ℤ_, _*ℤ_}
+use lib.IntN.{ℤ, pos, negℤ, natAbs, _-ℤ_, _*ℤ_, one, pow}
 use lib.ListN.{length, getD}
 use Rattle.whole.specs.Round.{nearest}
+use Rattle.whole.specs.Sum.{sumOver}
 use Rattle.whole.specs.Choose.{choose}
 use Rattle.whole.proofs.Determined.{Determined}
 use Rattle.request.specs.declared.Answer.{Answer}
-use Rattle.request.specs.Head.{degree, longest}
+use Rattle.request.specs.Head.{byForm, degree, longest, numbers}
 use Rattle.request.specs.Request.{Request}
 use Rattle.request.specs.Cascade.{Test, first, refused, decided}
 use Rattle.request.specs.Refusal.{refusals, answer, accepted}
 use Rattle.request.proofs.Accepted.{accepts}
+use Rattle.net.specs.Net.{rowStart, placeOf, netOf, numberAt, pathNumber}
 use Rattle.net.specs.Composed.{numerator, denominator, point}
-use Rattle.net.specs.Reading.{drawn, surfaceRead}
+use Rattle.net.specs.Reading.{bernstein, drawn, coordinate, scale, surfaceRead}
 use Rattle.net.specs.Mirror.{mirrored}
 use Rattle.net.proofs.Mirror.{answer-mirrored, numerator-mirrored, point-mirrored}
 use Rattle.compose.specs.Afterwards.{exactAfter, pointsAfter, afterwards}
 use Rattle.compose.specs.Contract.{Composed}
 use Rattle.compose.proofs.Written.{afterwards-none, afterwards-at, afterwards-past}
+use Rattle.demands.specs.Rides.{curve}
 use Rattle.compose.proofs.Demand3.{demand3 as at-every-moment}
 
 -- what the composer leaves: its answer and both arrays
@@ -61,6 +64,17 @@ pub record Demand1 (rq : Request) (age : ℕ) (exact points : List ℤ) (r : Res
   pub acceptance : first (refusals rq age (length exact) (length points)) ≡ none
       → r .answer ≡ record { number = 0; place = 0; count = longest (rq .head) + 1 }
 
+-- every place beyond L is as it was lent
+abbrev pub Stays : Request → List ℤ → List ℤ → Type 0
+Stays rq lent after = (R : ℕ) → longest (rq .head) < R → getD after R (pos 0) ≡ getD lent R (pos 0)
+
+-- so it is with P1's two points before a third place, and R = 1 is not beyond L
+pub worked-stays : Stays (curve 1 1 (pos 0 ∷ pos 100 ∷ []) (pos 0 ∷ pos 1024 ∷ [])) (pos 5 ∷ pos 6 ∷ pos 7 ∷ []) (pos 0 ∷ pos 100 ∷ pos 7 ∷ [])
+unfolding curve byForm degree longest
+worked-stays zero m = absurd (omega arith)
+worked-stays (suc zero) m = absurd (omega arith)
+worked-stays (suc (suc R)) m = refl
+
 -- Demand 2. Where a request is accepted, each exact numerator at R = 0 to L is the whole number of the blossom sum
 -- (document 000, equation 8; document 004, Corollary 1), each rounded point is that over binomial(L, R)·1024^r, rounded, and
 -- every later place of both arrays stays.
@@ -68,16 +82,35 @@ pub record Demand2 (rq : Request) (exact points : List ℤ) (r : Result) : Type 
   pub numerators : r .answer .number ≡ 0 → (R : ℕ) → R ≤ longest (rq .head) → getD (r .exact) R (pos 0) ≡ numerator rq R
   pub rounded : r .answer .number ≡ 0 → (R : ℕ) → R ≤ longest (rq .head)
       → getD (r .points) R (pos 0) ≡ nearest (numerator rq R) (choose (longest (rq .head)) R * 1024 ^ degree (rq .head))
-  pub exact-rest : r .answer .number ≡ 0 → (R : ℕ) → longest (rq .head) < R → getD (r .exact) R (pos 0) ≡ getD exact R (pos 0)
-  pub points-rest : r .answer .number ≡ 0 → (R : ℕ) → longest (rq .head) < R → getD (r .points) R (pos 0) ≡ getD points R (pos 0)
+  pub exact-rest : r .answer .number ≡ 0 → Stays rq exact (r .exact)
+  pub points-rest : r .answer .number ≡ 0 → Stays rq points (r .points)
+
+-- twice the difference of the curve drawn from points and the surface at the path's place, at the moment k/q, both scaled by
+-- 1024^r·q^L to whole numbers
+abbrev pub twiceOff : Request → List ℤ → ℕ → ℕ → ℕ
+twiceOff rq points k q =
+    natAbs (pos 2 *ℤ (pos (1024 ^ degree (rq .head)) *ℤ drawn (longest (rq .head)) points k q -ℤ surfaceRead rq k q))
+
+abbrev pub WithinHalf : Request → List ℤ → ℕ → ℕ → Type 0
+WithinHalf rq points k q = twiceOff rq points k q ≤ 1024 ^ degree (rq .head) * q ^ longest (rq .head)
+
+-- half a unit is reached: F 0, 1 at the one path number 512 is 0.5, and the point is 1
+abbrev halfway : Request
+halfway = curve 1 0 (pos 0 ∷ pos 1 ∷ []) (pos 512 ∷ [])
+
+pub half-reached : twiceOff halfway (pos 1 ∷ []) 1 3 ≡ 1024 ^ degree (halfway .head) * 3 ^ longest (halfway .head)
+unfolding curve byForm degree longest numbers rowStart placeOf netOf numberAt pathNumber bernstein drawn coordinate scale
+    surfaceRead sumOver choose pow one
+half-reached = refl
+
+pub worked-half : WithinHalf halfway (pos 1 ∷ []) 1 3
+worked-half = omega (arith, half-reached)
 
 -- Demand 3. Where a request is accepted, at every moment k/q the curve drawn from the rounded points lies within half a unit
--- of the surface at the path's place: twice the difference, both scaled by 1024^r·q^L to whole numbers, is at most that
--- scale. Both sides are read by Bernstein's formula (Rattle.net.specs.Reading); no blossom is in the statement.
+-- of the surface at the path's place: twice the difference is at most the scale. Both sides are read by Bernstein's formula
+-- (Rattle.net.specs.Reading); no blossom is in the statement.
 pub record Demand3 (rq : Request) (exact points : List ℤ) (r : Result) : Type 0 where
-  pub within-half : r .answer .number ≡ 0 → (k q : ℕ) → 1 ≤ q → k ≤ q
-      → natAbs (pos 2 *ℤ (pos (1024 ^ degree (rq .head)) *ℤ drawn (longest (rq .head)) (r .points) k q -ℤ surfaceRead rq k q))
-      ≤ 1024 ^ degree (rq .head) * q ^ longest (rq .head)
+  pub within-half : r .answer .number ≡ 0 → (k q : ℕ) → 1 ≤ q → k ≤ q → WithinHalf rq (r .points) k q
 
 -- Port and starboard (02, ticket 2). "All control values negated, all points negated": of a result r for a request and a
 -- result s for the mirrored request, the answers are the same, and where they are acceptances, every numerator and every
@@ -94,12 +127,14 @@ module _ (rq : Request) (age : ℕ) (exact points : List ℤ) (r : Result) (allo
   -- an acceptance writes L + 1 places
   all : r .answer .number ≡ 0 → count ≡ longest (rq .head) + 1
   unfolding accepted
-  all e = ap (λ (a : Answer). a .count) (accepts rq age (length exact) (length points) (ap (λ (a : Answer). a .number) (sym (allowed .answered)) ∙ e) .answered)
+  all e =
+      let zero-is = ap (λ (a : Answer). a .number) (sym (allowed .answered)) ∙ e in
+      ap (λ (a : Answer). a .count) (accepts rq age (length exact) (length points) zero-is .answered)
 
   written : (f : ℕ → ℤ) (l : List ℤ) → r .answer .number ≡ 0 → (R : ℕ) → R ≤ longest (rq .head) → getD (afterwards count f l) R (pos 0) ≡ f R
   written f l e R m = let c = all e in afterwards-at count f l R (pos 0) (omega arith)
 
-  rest : (f : ℕ → ℤ) (l : List ℤ) → r .answer .number ≡ 0 → (R : ℕ) → longest (rq .head) < R → getD (afterwards count f l) R (pos 0) ≡ getD l R (pos 0)
+  rest : (f : ℕ → ℤ) (l : List ℤ) → r .answer .number ≡ 0 → Stays rq l (afterwards count f l)
   rest f l e R m = let c = all e in afterwards-past count f l R (pos 0) (omega arith)
 
   pub demand1 : Demand1 rq age exact points r
@@ -124,10 +159,13 @@ module _ (rq : Request) (age : ℕ) (exact points : List ℤ) (r : Result) (allo
 
   pub demand3 : Demand3 rq exact points r
   demand3 = record {
-    within-half = λ e k q some m. rw (allowed .points-is) (at-every-moment rq age exact points (ap (λ (a : Answer). a .number) (sym (allowed .answered)) ∙ e) k q m);
+    within-half = λ e k q some m.
+        let zero-is = ap (λ (a : Answer). a .number) (sym (allowed .answered)) ∙ e in
+        rw (allowed .points-is) (at-every-moment rq age exact points zero-is k q m);
   }
 
-pub mirror : (rq : Request) (age : ℕ) (exact points : List ℤ) (r s : Result) → Allowed rq age exact points r → Allowed (mirrored rq) age exact points s → Mirror rq r s
+pub mirror : (rq : Request) (age : ℕ) (exact points : List ℤ) (r s : Result) → Allowed rq age exact points r
+    → Allowed (mirrored rq) age exact points s → Mirror rq r s
 unfolding mirrored point denominator
 mirror rq age exact points r s here there =
     let same : s .answer ≡ r .answer = there .answered ∙ answer-mirrored rq age (length exact) (length points) ∙ sym (here .answered) in

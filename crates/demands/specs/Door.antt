@@ -20,14 +20,15 @@ use Rattle.request.specs.Refusal.{notSurface, notPath, notRoom, accepted, refus
 use Rattle.request.proofs.Cascade.{Each, decided-is, past}
 use Rattle.net.specs.Composed.{point}
 use Rattle.wire.specs.Words.{Short, wordAt, wordBytes, numberBytes, numberAt}
-use Rattle.wire.specs.Start.{lengthField, kindField, recordStart, recordOf}
-use Rattle.door.specs.Record.{start, replyKind, headIn, ageIn, answerBytes, requestIn, replyRecord}
-use Rattle.door.specs.Judgement.{judged}
-use Rattle.door.specs.Contract.{pointsOf, replyOf, over, room, Answered}
+use Rattle.wire.specs.Start.{start, lengthField, kindField, recordStart, recordOf}
+use Rattle.replies.specs.Reply.{replyKind, answerBytes, replyRecord, room, over}
+use Rattle.judgement.specs.Record.{headIn, ageIn, requestIn}
+use Rattle.judgement.specs.Judgement.{judged}
+use Rattle.door.specs.Contract.{pointsOf, replyOf, Answered}
 use Rattle.wire.proofs.Words.{number-read}
-use Rattle.door.proofs.Over.{over-length}
-use Rattle.door.proofs.Order.{Passed, judged-is}
-use Rattle.door.proofs.Replies.{reply-length}
+use Rattle.replies.proofs.Over.{over-length}
+use Rattle.replies.proofs.Replies.{reply-length}
+use Rattle.judgement.proofs.Order.{Passed, judged-is}
 use Rattle.door.proofs.Sending.{judged-fits, surface-read, path-read, points-length, points-at, sendable}
 use Rattle.door.proofs.Room.{count-is, reply-is}
 
@@ -137,4 +138,6 @@ last-word request ok =
 
 pub never : (request : List ℕ) → Never (judged request .number)
 unfolding refused
-never request = judged-is request (λ a. Never (a .number)) (other 9 tt) (other 1 tt) (other 2 tt) (other 10 tt) (λ ok. rw (last-word request ok) (last-three (requestIn request) (ageIn request) mostPoints mostPoints))
+never request =
+    let three = last-three (requestIn request) (ageIn request) mostPoints mostPoints in
+    judged-is request (λ a. Never (a .number)) (other 9 tt) (other 1 tt) (other 2 tt) (other 10 tt) (λ ok. rw (last-word request ok) three)

@@ -11,8 +11,9 @@ use Rattle.net.specs.Composed.{point}
 use Rattle.net.specs.Mirror.{mirrored}
 use Rattle.net.proofs.Mirror.{answer-mirrored, point-mirrored}
 use Rattle.compose.specs.Afterwards.{listBelow}
-use Rattle.door.specs.Record.{requestRecord, replyRecord}
-use Rattle.door.specs.Judgement.{judged}
+use Rattle.replies.specs.Reply.{replyRecord}
+use Rattle.judgement.specs.Record.{requestRecord}
+use Rattle.judgement.specs.Judgement.{judged}
 use Rattle.door.specs.Contract.{pointsOf, replyOf}
 use Rattle.demands.specs.Asked.{Fits, milliseconds, Askable, read-again, answered-alike}
 
@@ -23,11 +24,15 @@ negated (suc n) f g e = rw (e 0, negated n (λ k. f (suc k)) (λ k. g (suc k)) (
 
 module _ (rq : Request) (age : Option ℕ) (fits : Fits age) (ok : Askable rq) (ok′ : Askable (mirrored rq)) where
   pub judged-mirrored : judged (requestRecord (mirrored rq) age) ≡ judged (requestRecord rq age)
-  judged-mirrored = rw (answered-alike (mirrored rq) age ok′ fits, answered-alike rq age ok fits) (answer-mirrored rq (milliseconds age) mostPoints mostPoints)
+  judged-mirrored =
+      rw (answered-alike (mirrored rq) age ok′ fits, answered-alike rq age ok fits)
+      (answer-mirrored rq (milliseconds age) mostPoints mostPoints)
 
   pub points-mirrored : pointsOf (requestRecord (mirrored rq) age) ≡ map negℤ (pointsOf (requestRecord rq age))
   unfolding pointsOf
-  points-mirrored = rw (judged-mirrored, read-again (mirrored rq) age ok′, read-again rq age ok) (negated _ (point rq) (point (mirrored rq)) (point-mirrored rq))
+  points-mirrored =
+      rw (judged-mirrored, read-again (mirrored rq) age ok′, read-again rq age ok)
+      (negated _ (point rq) (point (mirrored rq)) (point-mirrored rq))
 
   pub reply-mirrored : replyOf (requestRecord (mirrored rq) age) ≡ replyRecord (judged (requestRecord rq age)) (map negℤ (pointsOf (requestRecord rq age)))
   unfolding replyOf

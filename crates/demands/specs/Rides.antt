@@ -4,7 +4,7 @@
 use mathlib.Core.Path.{_≡_, refl}
 use mathlib.Core.List.{List, [], _∷_, _++_, map}
 use Prim.Native.Nat.{ℕ, _+_}
-use lib.IntN.{ℤ, pos, negℤ, natAbs, _-ℤ_, _*ℤ_, one, pow}
+use lib.IntN.{ℤ, pos, negℤ, one, pow}
 use lib.ListN.{length, replicate}
 use Rattle.whole.specs.Sum.{sumOver, sumTo}
 use Rattle.whole.specs.Choose.{choose}
@@ -14,7 +14,8 @@ use Rattle.request.specs.declared.Answer.{Answer}
 use Rattle.request.specs.Head.{byForm, degree, longest, surfaceCount, pathCount, numbers}
 use Rattle.request.specs.Request.{Request}
 use Rattle.request.specs.Cascade.{first, refused, decided}
-use Rattle.request.specs.Refusal.{refusals, answer, accepted, least, notKind, notDegree, notSurface, notPath, notRoom, notValue, notParameter, notBalance, valuePlace, parameterPlace, balancePlace, uneven, isNumber}
+use Rattle.request.specs.Refusal.{refusals, answer, accepted, least, notKind, notDegree, notSurface, notPath, notRoom}
+use Rattle.request.specs.Refusal.{notValue, notParameter, notBalance, valuePlace, parameterPlace, balancePlace, uneven, isNumber}
 use Rattle.net.specs.Net.{rowStart, placeOf, netOf, numberAt, pathNumber}
 use Rattle.net.specs.Blossom.{step, blossom}
 use Rattle.net.specs.Composed.{overChoices, total, weight, arguments, numerator, denominator, point}
@@ -94,7 +95,9 @@ documentRides =
     (naturals (4096 ∷ []))
     -- P12
     ∷ ride (curve 4 3 (naturals (4096 ∷ 4096 ∷ 4096 ∷ 4096 ∷ 4096 ∷ [])) (naturals (0 ∷ 0 ∷ 1024 ∷ 1024 ∷ [])))
-    (naturals (4503599627370496 ∷ 54043195528445952 ∷ 297237575406452736 ∷ 990791918021509120 ∷ 2229281815548395520 ∷ 3566850904877432832 ∷ 4161326055690338304 ∷ 3566850904877432832 ∷ 2229281815548395520 ∷ 990791918021509120 ∷ 297237575406452736 ∷ 54043195528445952 ∷ 4503599627370496 ∷ []))
+    (naturals (4503599627370496 ∷ 54043195528445952 ∷ 297237575406452736 ∷ 990791918021509120 ∷ 2229281815548395520 ∷ 3566850904877432832
+    ∷ 4161326055690338304 ∷ 3566850904877432832 ∷ 2229281815548395520
+    ∷ 990791918021509120 ∷ 297237575406452736 ∷ 54043195528445952 ∷ 4503599627370496 ∷ []))
     (naturals (4096 ∷ 4096 ∷ 4096 ∷ 4096 ∷ 4096 ∷ 4096 ∷ 4096 ∷ 4096 ∷ 4096 ∷ 4096 ∷ 4096 ∷ 4096 ∷ 4096 ∷ []))
     ∷ []
 
@@ -131,7 +134,12 @@ unfoldable pub stated : Ride → Answer × List ℤ × List ℤ
 stated r = (record { number = 0; place = 0; count = length (r .points) }, r .numerators ++ (mark ∷ []), r .points ++ (mark ∷ []))
 
 pub as-stated : map worked rides ≡ map stated rides
-unfolding rides documentRides ownRides ride naturals below curve tensor triangle mark worked stated exactAfter pointsAfter afterwards listBelow answer refusals first decided refused accepted least notKind notDegree notSurface notPath notRoom notValue notParameter notBalance valuePlace parameterPlace balancePlace beyondTravel beyondPath stale uneven isNumber byForm degree longest surfaceCount pathCount numbers rowStart placeOf netOf numberAt pathNumber step blossom overChoices total weight arguments numerator denominator point nearest onSideOf halfUp sumTo sumOver choose
+unfolding rides documentRides ownRides ride naturals below curve tensor triangle mark worked stated exactAfter
+    pointsAfter afterwards listBelow answer refusals first decided refused accepted least notKind notDegree notSurface
+    notPath notRoom notValue notParameter notBalance valuePlace parameterPlace balancePlace beyondTravel beyondPath
+    stale uneven isNumber byForm degree longest surfaceCount pathCount numbers rowStart placeOf netOf numberAt
+    pathNumber step blossom overChoices total weight arguments numerator denominator point nearest onSideOf halfUp
+    sumTo sumOver choose
 as-stated = refl
 
 -- "Reading a ride at k/q": a ride at the moment 1/3, the surface at the path's place times 1024^r·3^L, and the drawn curve
@@ -141,10 +149,6 @@ atThird r = (surfaceRead (r .request) 1 3, drawn (longest (r .request .head)) (r
 
 -- our own rides, reckoned from the same powers of t in fractions
 pub read-as-stated : map atThird ownRides ≡ (pos 15556534583680, pos 14489) ∷ (pos 31607710880, pos 30130) ∷ []
-unfolding atThird ownRides ride naturals below tensor triangle byForm degree longest numbers rowStart placeOf netOf numberAt pathNumber bernstein bernsteinTriangle drawn coordinate scale surfaceRead sumOver choose pow one
+unfolding atThird ownRides ride naturals below tensor triangle byForm degree longest numbers rowStart placeOf netOf
+    numberAt pathNumber bernstein bernsteinTriangle drawn coordinate scale surfaceRead sumOver choose pow one
 read-as-stated = refl
-
--- half a unit is reached: F 0, 1 at the one path number 512 is 0.5, and the point is 1
-pub half-reached : natAbs (pos 2 *ℤ (pos 1024 *ℤ drawn 0 (pos 1 ∷ []) 1 3 -ℤ surfaceRead (curve 1 0 (pos 0 ∷ pos 1 ∷ []) (pos 512 ∷ [])) 1 3)) ≡ 1024
-unfolding curve byForm degree longest numbers rowStart placeOf netOf numberAt pathNumber bernstein drawn coordinate scale surfaceRead sumOver choose pow one
-half-reached = refl

@@ -1,8 +1,4 @@
--- Laws of the door's numbers and records, and what is answered at the door fits a reply. Assumes nothing.
-pub mod Over
-pub mod Sizes
+-- What the composer is given and gives at the door, and what is answered there fits a reply. Assumes nothing.
 pub mod Composing
-pub mod Order
-pub mod Replies
 pub mod Sending
 pub mod Room

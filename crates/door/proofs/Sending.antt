@@ -21,12 +21,13 @@ use Rattle.net.proofs.Bounds.{point-size}
 use Rattle.compose.proofs.Written.{below-at, below-length}
 use Rattle.compose.proofs.Entry.{composable}
 use Rattle.wire.specs.Words.{Short}
-use Rattle.door.specs.Record.{headIn, ageIn, requestIn}
-use Rattle.door.specs.Judgement.{judged}
+use Rattle.replies.specs.Parts.{InBytes, Sendable}
+use Rattle.judgement.specs.Record.{headIn, ageIn, requestIn}
+use Rattle.judgement.specs.Judgement.{composed, judged}
+use Rattle.judgement.proofs.Sizes.{surface-most, path-most}
+use Rattle.judgement.proofs.Order.{Passed, judged-is}
 use Rattle.door.specs.Contract.{pointsOf}
-use Rattle.door.specs.Parts.{Given, InBytes, Sendable}
-use Rattle.door.proofs.Sizes.{surface-most, path-most}
-use Rattle.door.proofs.Order.{Passed, judged-is}
+use Rattle.door.specs.Given.{Given}
 use Rattle.door.proofs.Composing.{first-places}
 
 -- ---- the answer
@@ -79,7 +80,7 @@ pub path-read : (request : List ℕ) → length (requestIn request .path) ≡ pa
 unfolding requestIn
 path-read request = below-length _ _
 
-passed-fits : (request : List ℕ) → Passed request → InBytes (answer (requestIn request) (ageIn request) mostPoints mostPoints)
+passed-fits : (request : List ℕ) → Passed request → InBytes (composed request)
 unfolding requestIn
 passed-fits request ok =
     composer-fits (requestIn request) (ok .degrees)
@@ -89,7 +90,8 @@ passed-fits request ok =
 
 pub judged-fits : (request : List ℕ) → InBytes (judged request)
 judged-fits request =
-    judged-is request InBytes (refusal-fits 9 0 (omega arith) (omega arith)) (refusal-fits 1 0 (omega arith) (omega arith)) (refusal-fits 2 0 (omega arith) (omega arith)) (refusal-fits 10 0 (omega arith) (omega arith))
+    let at-0 : (number : ℕ) → number < 256 → InBytes (refused number 0) = λ number m. refusal-fits number 0 m (omega arith) in
+    judged-is request InBytes (at-0 9 (omega arith)) (at-0 1 (omega arith)) (at-0 2 (omega arith)) (at-0 10 (omega arith))
     (passed-fits request)
 
 -- ---- the points
@@ -98,14 +100,17 @@ unfolding accepted
 composer-point rq age e q R m = go (ℕ-discrete (answer rq age e q .number) 0)
   where
     go : Dec (answer rq age e q .number ≡ 0) → natAbs (point rq R) ≤ 4096
-    go (yes z) = let f = accepts rq age e q z in point-size rq (composable rq age e q f) R (omega (arith, ap (λ (a : Answer). a .count) (f .answered)))
+    go (yes z) =
+        let f = accepts rq age e q z in
+        point-size rq (composable rq age e q f) R (omega (arith, ap (λ (a : Answer). a .count) (f .answered)))
     go (no n) = absurd (omega (arith, refusal-empty rq age e q n))
 
 -- no point is above the greatest travel
 pub point-most : (request : List ℕ) (R : ℕ) → R < judged request .count → natAbs (point (requestIn request) R) ≤ 4096
 unfolding refused
 point-most request R =
-    judged-is request (λ a. R < a .count → natAbs (point (requestIn request) R) ≤ 4096) (λ m. absurd (omega arith)) (λ m. absurd (omega arith)) (λ m. absurd (omega arith)) (λ m. absurd (omega arith))
+    judged-is request (λ a. R < a .count → natAbs (point (requestIn request) R) ≤ 4096)
+    (λ m. absurd (omega arith)) (λ m. absurd (omega arith)) (λ m. absurd (omega arith)) (λ m. absurd (omega arith))
     (λ ok. composer-point (requestIn request) (ageIn request) mostPoints mostPoints R)
 
 short : (z : ℤ) → natAbs z ≤ 4096 → Short z
@@ -124,7 +129,11 @@ pub sendable : (request : List ℕ) → Sendable (judged request) (pointsOf requ
 sendable request = record {
   bytes = judged-fits request;
   all-points = points-length request;
-  short = record { each = λ k m. let l : k < judged request .count = omega (arith, points-length request) in rw (points-at request k l) (short (point (requestIn request) k) (point-most request k l)) };
+  short = record {
+    each = λ k m.
+        let l : k < judged request .count = omega (arith, points-length request) in
+        rw (points-at request k l) (short (point (requestIn request) k) (point-most request k l));
+  };
 }
 
 -- what is sent of the places that the composer was lent

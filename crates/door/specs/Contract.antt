@@ -2,16 +2,16 @@
 -- every reply slice. Assumes nothing.
 use mathlib.Core.Path.{_≡_}
 use mathlib.Core.Bool.{cond}
-use mathlib.Core.List.{List, _++_}
-use Prim.Native.Nat.{ℕ, _+_, _*_}
+use mathlib.Core.List.{List}
+use Prim.Native.Nat.{ℕ}
 use lib.IntN.{ℤ}
 use lib.Dec.{ltb}
-use lib.ListN.{length, drop}
-use Rattle.request.specs.Head.{mostPoints}
+use lib.ListN.{length}
 use Rattle.net.specs.Composed.{point}
 use Rattle.compose.specs.Afterwards.{listBelow}
-use Rattle.door.specs.Record.{start, requestIn, replyRecord}
-use Rattle.door.specs.Judgement.{judged}
+use Rattle.replies.specs.Reply.{replyRecord, room, over}
+use Rattle.judgement.specs.Record.{requestIn}
+use Rattle.judgement.specs.Judgement.{judged}
 
 -- the points of the reply, as many as the answer's count
 unfoldable pub pointsOf : List ℕ → List ℤ
@@ -21,15 +21,7 @@ pointsOf request = listBelow (judged request .count) (point (requestIn request))
 unfoldable pub replyOf : List ℕ → List ℕ
 replyOf request = replyRecord (judged request) (pointsOf request)
 
--- what is written, and "the slice beyond the reply stays"
-unfoldable pub over {ℓ} : {A : Type ℓ} → List A → List A → List A
-over written lent = written ++ drop (length written) lent
-
--- "Under 34 bytes of reply room": 8 and two for each of the most points
-abbrev pub room : ℕ
-room = start + 2 * mostPoints
-
--- "nothing is written and 0 is answered; otherwise the reply's byte count is answered"
+-- "Under 34 bytes of reply room nothing is written and 0 is answered; otherwise the reply's byte count is answered"
 unfoldable pub countAnswered : List ℕ → List ℕ → ℕ
 countAnswered request reply = cond (ltb (length reply) room) 0 (length (replyOf request))
 

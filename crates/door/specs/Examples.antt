@@ -10,15 +10,17 @@ use Rattle.whole.specs.Round.{nearest, onSideOf, halfUp}
 use Rattle.units.specs.Bounds.{beyondTravel, beyondPath, stale}
 use Rattle.request.specs.Head.{byForm, degree, longest, surfaceCount, pathCount, numbers}
 use Rattle.request.specs.Cascade.{first, refused, decided}
-use Rattle.request.specs.Refusal.{refusals, answer, accepted, least, notKind, notDegree, notSurface, notPath, notRoom, notValue, notParameter, notBalance, valuePlace, parameterPlace, balancePlace, uneven, isNumber}
+use Rattle.request.specs.Refusal.{refusals, answer, accepted, least, notKind, notDegree, notSurface, notPath, notRoom}
+use Rattle.request.specs.Refusal.{notValue, notParameter, notBalance, valuePlace, parameterPlace, balancePlace, uneven, isNumber}
 use Rattle.net.specs.Net.{rowStart, placeOf, netOf, numberAt as pathNumberAt, pathNumber}
 use Rattle.net.specs.Blossom.{step, blossom}
 use Rattle.net.specs.Composed.{overChoices, total, weight, arguments, numerator, denominator, point}
 use Rattle.compose.specs.Afterwards.{listBelow}
 use Rattle.wire.specs.Words.{wordBytes, wordAt, unsigned, signed, numberBytes, numberAt}
 use Rattle.wire.specs.Start.{lengthField, kindField, recordStart, recordOf}
-use Rattle.door.specs.Record.{headIn, isAged, startIn, ageIn, pathStart, bodyEnd, requestIn, answerBytes, replyRecord}
-use Rattle.door.specs.Judgement.{notOfKind, notFrame, notBody, doorRefusals, judged}
+use Rattle.replies.specs.Reply.{answerBytes, replyRecord}
+use Rattle.judgement.specs.Record.{headIn, isAged, startIn, ageIn, pathStart, bodyEnd, requestIn}
+use Rattle.judgement.specs.Judgement.{notOfKind, notFrame, notBody, doorRefusals, judged}
 use Rattle.door.specs.Contract.{pointsOf, replyOf}
 
 pub record Exchange : Type 0 where
@@ -90,5 +92,11 @@ exchanges =
     ∷ []
 
 pub as-stated : map (λ (e : Exchange). replyOf (e .request)) exchanges ≡ map (λ (e : Exchange). e .reply) exchanges
-unfolding refusalBytes exchanges wordBytes wordAt unsigned signed numberBytes numberAt lengthField kindField recordStart recordOf headIn isAged startIn ageIn pathStart bodyEnd requestIn answerBytes replyRecord notOfKind notFrame notBody doorRefusals judged pointsOf replyOf listBelow answer refusals first decided refused accepted least notKind notDegree notSurface notPath notRoom notValue notParameter notBalance valuePlace parameterPlace balancePlace beyondTravel beyondPath stale uneven isNumber byForm degree longest surfaceCount pathCount numbers rowStart placeOf netOf pathNumberAt pathNumber step blossom overChoices total weight arguments numerator denominator point nearest onSideOf halfUp sumTo sumOver choose
+unfolding refusalBytes exchanges wordBytes wordAt unsigned signed numberBytes numberAt lengthField kindField recordStart
+    recordOf headIn isAged startIn ageIn pathStart bodyEnd requestIn answerBytes replyRecord notOfKind notFrame notBody
+    doorRefusals judged pointsOf replyOf listBelow answer refusals first decided refused accepted least notKind
+    notDegree notSurface notPath notRoom notValue notParameter notBalance valuePlace parameterPlace balancePlace
+    beyondTravel beyondPath stale uneven isNumber byForm degree longest surfaceCount pathCount numbers rowStart placeOf
+    netOf pathNumberAt pathNumber step blossom overChoices total weight arguments numerator denominator point nearest
+    onSideOf halfUp sumTo sumOver choose
 as-stated = refl

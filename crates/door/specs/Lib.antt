@@ -1,6 +1,4 @@
--- The door's records as lists of bytes, the order in which a request is judged, and the reply. Assumes nothing.
-pub mod Record
-pub mod Judgement
+-- What the door answers to a record, worked records, and what its parts give one another. Assumes nothing.
 pub mod Contract
-pub mod Parts
+pub mod Given
 pub mod Examples

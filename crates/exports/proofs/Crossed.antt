@@ -9,8 +9,8 @@ use borrow.Author.Tests.{lt-ltb, le-ltb}
 use Rattle.request.specs.declared.Answer.{Answer}
 use Rattle.request.specs.Request.{Request}
 use Rattle.compose.specs.Contract.{Composed}
-use Rattle.tally.specs.declared.Five.{Five}
-use Rattle.tally.specs.Replay.{replayed}
+use Rattle.fives.specs.declared.Five.{Five}
+use Rattle.tally.specs.Read.{replayed}
 use Rattle.exports.specs.Exported.{withAnswer, Exported}
 use Rattle.exports.specs.Replayed.{withFive, Replayed}
 

@@ -5,8 +5,8 @@ use mathlib.Core.List.{List}
 use Prim.Native.Nat.{ℕ}
 use lib.Dec.{ltb}
 use lib.ListN.{length, set}
-use Rattle.tally.specs.declared.Five.{Five}
-use Rattle.tally.specs.Replay.{replayed}
+use Rattle.fives.specs.declared.Five.{Five}
+use Rattle.tally.specs.Read.{replayed}
 
 -- the five numbers, and every later word as it was
 unfoldable pub withFive : Five → List ℕ → List ℕ

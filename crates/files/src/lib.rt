@@ -1,17 +1,61 @@
-// Opening an input and reading it in parts, for every program. Nothing can be promised of what a file holds; what is promised
-// is that a part lies in the buffer it was read into. A read that a signal broke off is asked again.
+// The room that every program shares: opening an input and reading it in parts, writing, and what goes wrong with either. What a
+// file holds cannot be promised; what is promised is which bytes went through which stream, in which order.
+ghost use mathlib.Core.Path.{_≡_};
+ghost use Prim.Native.Nat.{_+_};
+ghost use lib.ListN.{take};
 ghost use Rattle.io.specs.Counts.{Counts};
+ghost use Rattle.files.specs.Stream.{capped, Through, Wrote};
 
-// An open input and how many bytes its name has; `fd` is below 0 where it could not be opened.
+// An open input or output: how many bytes went through it, and whether a call on it failed, after which nothing more goes
+// through. The descriptor is below 0 where there is none.
+pub struct Stream {
+    fd: i32,
+    pub count: u64,
+    pub failed: bool,
+}
+
+// An input that was opened, and how many bytes its name has; the stream failed where it could not be opened.
 pub struct Input {
-    pub fd: i32,
+    pub stream: Stream,
     pub size: usize,
 }
 
-// How many bytes came, 0 at the end; `failed` where the read did, and then none came.
+// How many bytes came, 0 at the end or where the read failed, and the stream behind them.
 pub struct Got {
     pub count: usize,
-    pub failed: bool,
+    pub stream: Stream,
+}
+
+fn wide(n: usize) -> u64
+    ensures { λ r. ⌜ r ≡ n ⌝ }
+{
+    n as u64
+}
+
+// So many more, up to the greatest number.
+fn further(count: u64, n: u64) -> u64
+    ensures { λ r. ⌜ r ≡ capped (count + n) ⌝ }
+{
+    if n < u64::MAX - count {
+        return count + n;
+    }
+    u64::MAX
+}
+
+fn on(fd: i32) -> Stream {
+    Stream {
+        fd,
+        count: 0,
+        failed: fd < 0,
+    }
+}
+
+pub fn standard_output() -> Stream {
+    on(libc::STDOUT_FILENO)
+}
+
+pub fn standard_error() -> Stream {
+    on(libc::STDERR_FILENO)
 }
 
 // A word at the front of a name, as far as there is room.
@@ -36,50 +80,72 @@ pub fn open(file: usize, name: &mut [u8]) -> Input
 {
     if file == 0 {
         return Input {
-            fd: libc::STDIN_FILENO,
+            stream: on(libc::STDIN_FILENO),
             size: call(b"standard input", name),
         };
     }
     let size = os::arg(file, name);
     if os::errno() != 0 {
-        return Input { fd: -1, size };
+        return Input {
+            stream: on(-1),
+            size,
+        };
     }
     Input {
-        fd: os::open_read(&name[..size]),
+        stream: on(os::open_read(&name[..size])),
         size,
     }
 }
 
-// The next part of an input, in the lent buffer. A proved loop has to end: it counts its turns down from a number that no run
-// uses up.
-pub fn read(fd: i32, part: &mut [u8]) -> Got
-    ensures { λ r. ⌜ Counts (r .count) (now (part .exit)) ⌝ }
-{
+// One read, asked again where a signal broke it off; below 0 where it failed. A proved loop has to end: it counts its turns down
+// from a number that no run uses up.
+fn read_once(fd: i32, part: &mut [u8]) -> isize {
     let mut turns = u64::MAX;
     while turns > 0 {
         let got = libc::read(fd, part);
         if got >= 0 {
-            return Got {
-                count: io::count(got, part),
-                failed: false,
-            };
+            return got;
         }
         if os::errno() != libc::EINTR {
-            return Got {
-                count: 0,
-                failed: true,
-            };
+            return got;
         }
         turns -= 1;
     }
+    -1
+}
+
+// The next part of an input, in the lent buffer.
+pub fn read(from: Stream, part: &mut [u8]) -> Got
+    ensures { λ r. ⌜ Counts (r .count) (now (part .exit)) × Through from (take (r .count) (now (part .exit))) (r .stream) ⌝ }
+{
+    let got = read_once(from.fd, part);
+    let count = io::count(got, part);
     Got {
-        count: 0,
-        failed: true,
+        count,
+        stream: Stream {
+            fd: from.fd,
+            count: further(from.count, wide(count)),
+            failed: got < 0,
+        },
     }
 }
 
-pub fn close(input: Input) {
-    if input.fd > libc::STDIN_FILENO {
-        libc::close(input.fd);
+// Writes bytes; nothing to a stream that has failed.
+pub fn write(to: Stream, bytes: &[u8]) -> Stream
+    ensures { λ r. ⌜ Wrote to (now (bytes .entry)) r ⌝ }
+{
+    if to.failed {
+        return to;
+    }
+    Stream {
+        fd: to.fd,
+        count: further(to.count, wide(bytes.len())),
+        failed: !io::write_all(to.fd, bytes),
+    }
+}
+
+pub fn close(stream: Stream) {
+    if stream.fd > libc::STDIN_FILENO {
+        libc::close(stream.fd);
     }
 }

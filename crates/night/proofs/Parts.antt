@@ -1,61 +1,88 @@
--- Laws of a night's reading: no part was read yet, or one more. Assumes nothing.
+-- Laws of a night's reading: over any state that takes a part, no part was read yet, or one more. Assumes nothing.
 use mathlib.Core.Path.{_≡_, refl, sym, ap, _∙_}
 use mathlib.Core.Bool.{true, false, false≢true}
-use mathlib.Core.List.{List, [], _∷_, _++_}
-use Prim.Native.Nat.{ℕ}
+use mathlib.Core.List.{List, [], _∷_, _++_, append-nil, append-assoc}
+use Prim.Native.Nat.{ℕ, _≤_}
 use native.Mathlib.Omega.{arith}
-use lib.Seq.{length-take-le}
-use Rattle.trace.specs.declared.seek.Seeker.{Seeker}
-use Rattle.trace.specs.Seek.{soughtIn, soughtInAll}
-use Rattle.trace.proofs.Sought.{sought-next}
-use Rattle.tally.specs.declared.Five.{Five}
+use lib.ListN.{length, take}
+use lib.Seq.{sets, length-sets}
+use borrow.Author.Tests.{le-ltb}
+use Rattle.spell.proofs.Writing.{front-read}
+use Rattle.feed.specs.Parts.{uncut}
+use Rattle.fives.specs.declared.Five.{Five}
 use Rattle.tally.specs.declared.Reader.{Reader}
-use Rattle.tally.specs.Read.{afterPart, afterParts, fiveIn}
-use Rattle.tally.specs.Lines.{Told}
-use Rattle.tally.proofs.Reading.{after-next}
-use Rattle.night.specs.Reading.{AfterSome, SoughtSome, Ends}
+use Rattle.tally.specs.Read.{replayed}
+use Rattle.tally.specs.Read.{afterPart, afterParts, blankReader, fiveIn}
+use Rattle.fives.specs.Lines.{fiveLines, Told}
+use Rattle.tally.proofs.Promises.{five-of-parts}
+use Rattle.files.specs.declared.Stream.{Stream}
+use Rattle.files.specs.Stream.{Through, through-none, through-more, Wrote}
+use Rattle.night.specs.Reading.{afterAll, Took, Replays}
 
-pub none-read : (reader : Reader) → AfterSome reader reader
-unfolding afterParts
-none-read reader = record { parts = []; after = refl }
+uncut-more : (a b : List (List ℕ)) → uncut (a ++ b) ≡ uncut a ++ uncut b
+unfolding uncut
+uncut-more [] b = refl
+uncut-more (x ∷ a) b = rw (uncut-more a b) (sym (append-assoc x (uncut a) (uncut b)))
 
-pub one-read : {reader before after : Reader} (part : List ℕ) → AfterSome reader before → after ≡ afterPart before part
-    → AfterSome reader after
-one-read {reader} part s e =
-    record {
-      parts = s .parts ++ part ∷ [];
-      after = e ∙ ap (λ (r : Reader). afterPart r part) (s .after)
-          ∙ after-next reader (s .parts) part;
-    }
+module _ {S : Type 0} (step : S → List ℕ → S) where
+  after-more : (s : S) (a b : List (List ℕ)) → afterAll step s (a ++ b) ≡ afterAll step (afterAll step s a) b
+  unfolding afterAll
+  after-more s [] b = refl
+  after-more s (p ∷ a) b = after-more (step s p) a b
 
-pub none-sought : (seeker : Seeker) → SoughtSome seeker seeker
-unfolding soughtInAll
-none-sought seeker = record { parts = []; after = refl }
+  pub took-none : (i : Stream) (s : S) → Took step i s i s
+  unfolding afterAll uncut
+  took-none i s = record { parts = []; went = through-none i; after = refl }
 
-pub one-sought : {seeker before after : Seeker} (part : List ℕ) → SoughtSome seeker before → after ≡ soughtIn before part
-    → SoughtSome seeker after
-one-sought {seeker} part s e =
-    record {
-      parts = s .parts ++ part ∷ [];
-      after = e ∙ ap (λ (r : Seeker). soughtIn r part) (s .after)
-          ∙ sought-next seeker (s .parts) part;
-    }
+  pub took-one : (i : Stream) (s : S) (i′ : Stream) (s′ : S) (part : List ℕ) → Through i part i′ → s′ ≡ step s part
+      → Took step i s i′ s′
+  unfolding afterAll uncut
+  took-one i s i′ s′ part t e = record { parts = part ∷ []; went = rw append-nil t; after = e }
 
--- a read failed, or the lines are told
-module _ {reader after : Reader} (s : AfterSome reader after) where
-  pub failed : (out : List ℕ) → Ends reader out true 0 out
-  failed out = record {
-    parts = s .parts;
-    lines = λ e. absurd (false≢true (sym e));
-    none = λ e. (refl, refl);
-    within = (omega arith, refl);
+  pub took-more : (i : Stream) (s : S) (i′ : Stream) (s′ : S) (i″ : Stream) (s″ : S) → Took step i s i′ s′ → Took step i′ s′ i″ s″
+      → Took step i s i″ s″
+  took-more i s i′ s′ i″ s″ p q = record {
+    parts = p .parts ++ q .parts;
+    went = rw (uncut-more (p .parts) (q .parts)) (through-more i (uncut (p .parts)) i′ (uncut (q .parts)) i″ (p .went) (q .went));
+    after = q .after ∙ ap (λ (t : S). afterAll step t (q .parts)) (p .after) ∙ sym (after-more s (p .parts) (q .parts));
   }
 
-  pub told : {out out′ : List ℕ} {count : ℕ} {five : Five} → five ≡ fiveIn after → Told five out count out′
-      → Ends reader out false count out′
-  told e t = record {
-    parts = s .parts;
-    lines = λ _. rw (← s .after, ← e) t;
-    none = λ f. absurd (false≢true f);
-    within = (t .within, sym (length-take-le _ _ (t .within)));
+-- the reader's parts
+same-parts : (reader : Reader) (parts : List (List ℕ)) → afterAll afterPart reader parts ≡ afterParts reader parts
+unfolding afterAll afterParts
+same-parts reader [] = refl
+same-parts reader (part ∷ parts) = same-parts (afterPart reader part) parts
+
+module _ (input : Stream) (first : Reader) (i : Stream) (reader : Reader) (five : Five) (begins : first ≡ blankReader)
+    (took : Took afterPart input first i reader) (ends : five ≡ fiveIn reader) where
+  numbers : five ≡ replayed (uncut (took .parts))
+  numbers = ends ∙ ap fiveIn (took .after ∙ rw begins (same-parts blankReader (took .parts))) ∙ five-of-parts (took .parts)
+
+  -- a read failed, or the lines are written
+  pub failed : (out : Stream) → i .failed ≡ true → Replays input out (record { input = i; out = out; five = five })
+  failed out f = record {
+    bytes = uncut (took .parts);
+    went = took .went;
+    numbers = numbers;
+    lines = λ e. absurd (false≢true (sym e ∙ f));
+    none = λ e. refl;
+  }
+
+  -- the lines as they were put into a buffer
+  lines-are : (l l′ : List ℕ) (n : ℕ) → 134 ≤ length l → Told five l n l′ → take n l′ ≡ fiveLines (replayed (uncut (took .parts)))
+  lines-are l l′ n enough t =
+      let size : n ≡ length (fiveLines five) = rw (le-ltb _ _ enough) at (t .counted) in
+      let is : l′ ≡ sets l 0 (fiveLines five) = rw (le-ltb _ _ enough) at (t .written) in
+      let fits : length (fiveLines five) ≤ length l =
+      omega (arith, size, t .within, ap length is ∙ length-sets l 0 (fiveLines five)) in
+      rw (is, size) (front-read l (fiveLines five) fits) ∙ ap fiveLines numbers
+
+  pub written : (out o : Stream) (l l′ : List ℕ) (n : ℕ) → i .failed ≡ false → 134 ≤ length l → Told five l n l′
+      → Wrote out (take n l′) o → Replays input out (record { input = i; out = o; five = five })
+  written out o l l′ n f enough t w = record {
+    bytes = uncut (took .parts);
+    went = took .went;
+    numbers = numbers;
+    lines = λ e. rw (lines-are l l′ n enough t) at w;
+    none = λ e. absurd (false≢true (sym f ∙ e));
   }

@@ -1,27 +1,31 @@
--- What the reading of a night promises of the parts that were read, whatever they hold: the reader, or the seeker, that was
--- given has taken them one after the other; and the lines are those of that reader. Assumes nothing.
+-- What the reading of a night promises of the bytes that were read, whatever they are: over any state that takes a part, the
+-- state has taken them, part after part; and the numbers and lines of a night are those of all of them. Assumes nothing.
 use mathlib.Core.Path.{_≡_}
-use mathlib.Core.Bool.{Bool, true, false}
-use mathlib.Core.List.{List}
+use mathlib.Core.Bool.{true, false}
+use mathlib.Core.List.{List, [], _∷_}
 use Prim.Native.Nat.{ℕ}
-use Rattle.io.specs.Counts.{Counts}
-use Rattle.trace.specs.declared.seek.Seeker.{Seeker}
-use Rattle.trace.specs.Seek.{soughtInAll}
-use Rattle.tally.specs.declared.Reader.{Reader}
-use Rattle.tally.specs.Read.{afterParts, fiveIn}
-use Rattle.tally.specs.Lines.{Told}
+use Rattle.feed.specs.Parts.{uncut}
+use Rattle.tally.specs.Read.{replayed}
+use Rattle.fives.specs.Lines.{fiveLines}
+use Rattle.files.specs.declared.Stream.{Stream}
+use Rattle.files.specs.Stream.{Through, Wrote}
+use Rattle.night.specs.declared.Replayed.{Replayed}
 
-pub record AfterSome (reader reader′ : Reader) : Type 0 where
-  pub parts : List (List ℕ)
-  pub after : reader′ ≡ afterParts reader parts
+-- a state after parts one after the other
+unfoldable pub afterAll : {S : Type 0} → (S → List ℕ → S) → S → List (List ℕ) → S
+afterAll step s [] = s
+afterAll step s (part ∷ parts) = afterAll step (step s part) parts
 
-pub record SoughtSome (seeker seeker′ : Seeker) : Type 0 where
+-- just these parts were read from an input, and the state took them
+pub record Took {S : Type 0} (step : S → List ℕ → S) (from : Stream) (s : S) (from′ : Stream) (s′ : S) : Type 0 where
   pub parts : List (List ℕ)
-  pub after : seeker′ ≡ soughtInAll seeker parts
+  pub went : Through from (uncut parts) from′
+  pub after : s′ ≡ afterAll step s parts
 
--- the five lines of what the reader had and of the parts; where a read failed, nothing is written
-pub record Ends (reader : Reader) (out : List ℕ) (failed : Bool) (count : ℕ) (out′ : List ℕ) : Type 0 where
-  pub parts : List (List ℕ)
-  pub lines : failed ≡ false → Told (fiveIn (afterParts reader parts)) out count out′
-  pub none : failed ≡ true → (count ≡ 0) × (out′ ≡ out)
-  pub within : Counts count out′
+-- the numbers of the bytes that were read, and their lines; where a read failed nothing was written
+pub record Replays (input out : Stream) (r : Replayed) : Type 0 where
+  pub bytes : List ℕ
+  pub went : Through input bytes (r .input)
+  pub numbers : r .five ≡ replayed bytes
+  pub lines : r .input .failed ≡ false → Wrote out (fiveLines (replayed bytes)) (r .out)
+  pub none : r .input .failed ≡ true → r .out ≡ out

@@ -1,36 +1,39 @@
-// A night as it comes from a descriptor: its five lines as bytes, or one pair by its number. What a file holds is not known
-// here; it is promised that every part that was read was taken, one after the other, by the reader that was given.
+// A night as it comes from an input: its five numbers and their lines, or one pair by its number. What a file holds is not
+// known here; it is promised that what was written, or found, is that of the bytes that were read.
+use files::Stream;
+use fives::Five;
 use tally::Reader;
 use trace::seek::Seeker;
 ghost use mathlib.Core.Path.{_≡_};
-ghost use lib.ListN.{take};
 ghost use Rattle.tally.specs.Read.{afterPart};
-ghost use Rattle.trace.specs.Seek.{soughtIn};
-ghost use Rattle.night.specs.Reading.{AfterSome, SoughtSome, Ends};
+ghost use Rattle.trace.specs.Seek.{soughtIn, seekerOfPair};
+ghost use Rattle.night.specs.Reading.{Took, Replays};
 
-// The reader after a part, how many bytes came, and whether the read failed.
+// The input and the reader behind a part, and how many bytes came.
 struct Night {
+    input: Stream,
     reader: Reader,
     count: usize,
-    failed: bool,
 }
 
-// How many bytes the lines are, and whether a read failed: then there are none.
-pub struct Ended {
-    pub count: usize,
-    pub failed: bool,
+// The input behind a night, the output behind its lines, and its numbers.
+pub struct Replayed {
+    pub input: Stream,
+    pub out: Stream,
+    pub five: Five,
 }
 
 // One part more.
-fn read_part(fd: i32, reader: Reader, part: &mut [u8]) -> Night
-    ensures { λ r. ⌜ r .reader ≡ afterPart reader (take (r .count) (now (part .exit))) ⌝ }
+fn read_part(input: Stream, reader: Reader, part: &mut [u8]) -> Night
+    ensures { λ r. ⌜ Took afterPart input reader (r .input) (r .reader) ⌝ }
 {
-    let got = files::read(fd, part);
+    let got = files::read(input, part);
     let n = got.count;
+    let behind = got.stream;
     Night {
+        input: behind,
         reader: tally::take(reader, &part[..n]),
         count: n,
-        failed: got.failed,
     }
 }
 
@@ -45,88 +48,90 @@ fn tell(progress: bool, turns: u64, reader: Reader) {
                 &mut out,
                 0,
             );
-            io::write_all(libc::STDERR_FILENO, &out[..n]);
+            files::write(files::standard_error(), &out[..n]);
         }
     }
 }
 
 // Nothing says that a trace ends, and a proved loop has to: it counts its turns down from a number that no run uses up.
-fn read_all(fd: i32, reader: Reader, part: &mut [u8], progress: bool) -> Night
-    ensures { λ r. ⌜ AfterSome reader (r .reader) ⌝ }
+fn read_all(input: Stream, reader: Reader, part: &mut [u8], progress: bool) -> Night
+    ensures { λ r. ⌜ Took afterPart input reader (r .input) (r .reader) ⌝ }
 {
     let mut night = Night {
+        input,
         reader,
         count: 0,
-        failed: true,
     };
     let mut turns = u64::MAX;
     while turns > 0 {
-        night = read_part(fd, night.reader, part);
+        night = read_part(night.input, night.reader, part);
         if night.count == 0 {
             return night;
         }
         turns -= 1;
         tell(progress, turns, night.reader);
     }
-    let last = night.reader;
-    Night {
-        reader: last,
-        count: 0,
-        failed: true,
-    }
+    night
 }
 
-// The five lines of what a reader had and what comes from a descriptor, at the front of `out`.
-pub fn five_lines(fd: i32, reader: Reader, progress: bool, out: &mut [u8]) -> Ended
-    ensures { λ r. ⌜ Ends reader (now (out .entry)) (r .failed) (r .count) (now (out .exit)) ⌝ }
+// Reads a night to its end and writes its five lines; where a read failed there are none, since lines of a part could be taken
+// for those of the whole.
+pub fn replay_all(input: Stream, progress: bool, out: Stream) -> Replayed
+    ensures { λ r. ⌜ Replays input out r ⌝ }
 {
     let mut part = io::large_buffer();
-    let night = read_all(fd, reader, &mut part, progress);
-    if night.failed {
-        return Ended {
-            count: 0,
-            failed: true,
+    let mut lines = [0u8; 134];
+    let night = read_all(input, tally::new(), &mut part, progress);
+    let behind = night.input;
+    let five = tally::finish(night.reader);
+    if behind.failed {
+        return Replayed {
+            input: behind,
+            out,
+            five,
         };
     }
-    let five = tally::finish(night.reader);
-    Ended {
-        count: tally::write_five(five, out),
-        failed: false,
+    let n = fives::write_five(five, &mut lines);
+    Replayed {
+        input: behind,
+        out: files::write(out, &lines[..n]),
+        five,
     }
 }
 
-// The seeker after a part, how many bytes came, and whether the read failed.
+// The input and the seeker behind a part, and how many bytes came.
 pub struct Hunt {
+    pub input: Stream,
     pub seeker: Seeker,
     pub count: usize,
-    pub failed: bool,
 }
 
 // One part more.
-fn seek_part(fd: i32, seeker: Seeker, part: &mut [u8]) -> Hunt
-    ensures { λ r. ⌜ r .seeker ≡ soughtIn seeker (take (r .count) (now (part .exit))) ⌝ }
+fn seek_part(input: Stream, seeker: Seeker, part: &mut [u8]) -> Hunt
+    ensures { λ r. ⌜ Took soughtIn input seeker (r .input) (r .seeker) ⌝ }
 {
-    let got = files::read(fd, part);
+    let got = files::read(input, part);
     let n = got.count;
+    let behind = got.stream;
     Hunt {
+        input: behind,
         seeker: trace::seek::seek(seeker, &part[..n]),
         count: n,
-        failed: got.failed,
     }
 }
 
-// Seeks through what comes from a descriptor, until the pair is found. The turns are counted down likewise.
-pub fn seek_all(fd: i32, seeker: Seeker, part: &mut [u8]) -> Hunt
-    ensures { λ r. ⌜ SoughtSome seeker (r .seeker) ⌝ }
+// Seeks until the pair is found. The turns are counted down likewise.
+fn seek_on(input: Stream, seeker: Seeker, part: &mut [u8]) -> Hunt
+    ensures { λ r. ⌜ Took soughtIn input seeker (r .input) (r .seeker) ⌝ }
 {
     let mut hunt = Hunt {
+        input,
         seeker,
         count: 0,
-        failed: true,
     };
     let mut turns = u64::MAX;
     while turns > 0 {
-        hunt = seek_part(fd, hunt.seeker, part);
+        hunt = seek_part(hunt.input, hunt.seeker, part);
         if hunt.count == 0 {
             return hunt;
         }
@@ -136,4 +141,12 @@ pub fn seek_all(fd: i32, seeker: Seeker, part: &mut [u8]) -> Hunt
         turns -= 1;
     }
     hunt
+}
+
+// Seeks pair `wanted` of a night.
+pub fn seek_pair(input: Stream, wanted: u64) -> Hunt
+    ensures { λ r. ⌜ Took soughtIn input (seekerOfPair wanted) (r .input) (r .seeker) ⌝ }
+{
+    let mut part = io::large_buffer();
+    seek_on(input, trace::seek::begin(wanted), &mut part)
 }

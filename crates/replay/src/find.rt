@@ -1,6 +1,7 @@
 // Finding one pair of a night by its number, and showing it.
 use crate::show::put_pair;
 use crate::text::line;
+use files::Stream;
 
 // The pair that is at the front of what is held.
 fn put_front(held: &[u8], size: u64) {
@@ -15,11 +16,11 @@ fn put_held(held: &[u8; 256], size: u64) {
 }
 
 // Shows pair `wanted` of what comes from a descriptor.
-fn show_from(fd: i32, name: &[u8], wanted: u64) {
-    let mut part = io::large_buffer();
-    let hunt = night::seek_all(fd, trace::seek::begin(wanted), &mut part);
+fn show_from(from: Stream, name: &[u8], wanted: u64) {
+    let hunt = night::seek_pair(from, wanted);
     let seeker = hunt.seeker;
-    if hunt.failed {
+    let read = hunt.input;
+    if read.failed {
         os::fail(name);
         return;
     }
@@ -44,10 +45,11 @@ pub fn run(file: usize, wanted: u64) {
     let mut name = io::buffer();
     let input = files::open(file, &mut name);
     let n = input.size;
-    if input.fd < 0 {
+    let from = input.stream;
+    if from.failed {
         os::fail(&name[..n]);
         return;
     }
-    show_from(input.fd, &name[..n], wanted);
-    files::close(input);
+    show_from(from, &name[..n], wanted);
+    files::close(from);
 }

@@ -1,22 +1,22 @@
 // Replaying a night: its five lines, or why there are none.
 use crate::text::say;
-use libc::STDOUT_FILENO;
+use files::Stream;
 
 fn no_numbers(name: &[u8]) {
     os::fail(name);
     say(b"replay: the trace was not read to its end, so there are no numbers\n");
 }
 
-// Replays what comes from a descriptor.
-fn replay_from(fd: i32, name: &[u8], progress: bool) {
-    let mut out = [0u8; 134];
-    let ended = night::five_lines(fd, tally::new(), progress, &mut out);
-    if ended.failed {
+// Replays what comes from an input.
+fn replay_from(from: Stream, name: &[u8], progress: bool) {
+    let replayed = night::replay_all(from, progress, files::standard_output());
+    let read = replayed.input;
+    let out = replayed.out;
+    if read.failed {
         no_numbers(name);
         return;
     }
-    let n = ended.count;
-    if !io::write_all(STDOUT_FILENO, &out[..n]) {
+    if out.failed {
         os::fail(b"standard output");
     }
 }
@@ -26,10 +26,11 @@ pub fn run(file: usize, progress: bool) {
     let mut name = io::buffer();
     let input = files::open(file, &mut name);
     let n = input.size;
-    if input.fd < 0 {
+    let from = input.stream;
+    if from.failed {
         no_numbers(&name[..n]);
         return;
     }
-    replay_from(input.fd, &name[..n], progress);
-    files::close(input);
+    replay_from(from, &name[..n], progress);
+    files::close(from);
 }

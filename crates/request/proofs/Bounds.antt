@@ -14,7 +14,7 @@ use Rattle.request.specs.Refusal.{valuePlace, parameterPlace, balancePla
 use Rattle.request.proofs.Least.{least-before, least-le}
 
 -- whatever holds of 0 and of each number of a list holds of what is read anywhere
-pub read-anywhere : (P : ℤ → Type 0) (l : List ℤ) → P (pos 0) → ((k : ℕ) → k < length l → P (getD l k (pos 0))) → (k : ℕ) → P (getD l k (pos 0))
+read-anywhere : (P : ℤ → Type 0) (l : List ℤ) → P (pos 0) → ((k : ℕ) → k < length l → P (getD l k (pos 0))) → (k : ℕ) → P (getD l k (pos 0))
 read-anywhere P l none each k = go (decLt k (length l))
   where
     go : Dec (k < length l) → P (getD l k (pos 0))
@@ -28,12 +28,14 @@ parameter-most path = least-le (length path) (λ k. beyondPath (getD path k (pos
 pub path-numbers : (path : List ℤ) → parameterPlace path ≡ length path → (k : ℕ) → IsPath (getD path k (pos 0))
 unfolding parameterPlace
 path-numbers path e =
-    read-anywhere IsPath path zero-within (λ k m. path-within _ (least-before (length path) (λ k. beyondPath (getD path k (pos 0))) k (rw e m)))
+    let within = least-before (length path) (λ k. beyondPath (getD path k (pos 0))) in
+    read-anywhere IsPath path zero-within (λ k m. path-within _ (within k (rw e m)))
 
 pub travels : (surface : List ℤ) → valuePlace surface ≡ length surface → (k : ℕ) → natAbs (getD surface k (pos 0)) ≤ most
 unfolding valuePlace
 travels surface e =
-    read-anywhere (λ z. natAbs z ≤ most) surface (omega arith) (λ k m. travel-within _ (least-before (length surface) (λ k. beyondTravel (getD surface k (pos 0))) k (rw e m)))
+    let within = least-before (length surface) (λ k. beyondTravel (getD surface k (pos 0))) in
+    read-anywhere (λ z. natAbs z ≤ most) surface (omega arith) (λ k m. travel-within _ (within k (rw e m)))
 
 -- the sizes of a point's numbers add up as the numbers do
 pub uneven-is : (path : List ℤ) (c : ℕ) → parameterPlace path ≡ length path

@@ -11,7 +11,7 @@ use Rattle.request.specs.Head.{mostDegree, mostN, byForm, degree, longes
 use Rattle.request.specs.Refusal.{notKind, notDegree}
 
 -- two tests that hold together are one test
-pub same-test : (a b c d : ℕ) → (a < b → c < d) → (c < d → a < b) → ltb a b ≡ ltb c d
+same-test : (a b c d : ℕ) → (a < b → c < d) → (c < d → a < b) → ltb a b ≡ ltb c d
 same-test a b c d to from = go (ltb a b) (ltb c d) refl refl
   where
     go : (s t : Bool) → ltb a b ≡ s → ltb c d ≡ t → ltb a b ≡ ltb c d
@@ -66,7 +66,9 @@ first-le h = go (eqb (h .form) 1) (eqb (h .form) 2)
 pub small-tensor : (h : Head) → h .form ≡ 2 → h .first ≤ mostDegree → h .N ≤ mostN → ltb (mostDegree - h .first) (h .second) ≡ notDegree h
 unfolding notDegree degree
 small-tensor h e f n =
-    simp (at-tensor h (h .first) (h .first + h .second) (h .first) e, at-tensor h (not (eqb (h .second) 0)) false (not (eqb (h .second) 0)) e, le-ltb mostN (h .N) n, or-false)
+    let r-is = at-tensor h (h .first) (h .first + h .second) (h .first) e in
+    let no-test = at-tensor h (not (eqb (h .second) 0)) false (not (eqb (h .second) 0)) e in
+    simp (r-is, no-test, le-ltb mostN (h .N) n, or-false)
     (same-test (mostDegree - h .first) (h .second) mostDegree (h .first + h .second) (λ l. omega arith) (λ l. omega arith))
 
 pub small-outer : (h : Head) → (h .form ≡ 2 → ⊥) → h .first ≤ mostDegree → h .N ≤ mostN → not (eqb (h .second) 0) ≡ notDegree h
@@ -98,9 +100,14 @@ pub small : (h : Head) → notDegree h ≡ false → Small h
 unfolding notDegree degree byForm
 small h e = go (eqb (h .form) 1) (eqb (h .form) 2) refl refl e
   where
+    other : Bool
+    other = not (eqb (h .second) 0)
+
+    r : Bool → Bool → ℕ
+    r a b = cond a (h .first) (cond b (h .first + h .second) (h .first))
+
     go : (a b : Bool) → eqb (h .form) 1 ≡ a → eqb (h .form) 2 ≡ b
-        → (ltb mostDegree (cond a (h .first) (cond b (h .first + h .second) (h .first))) || ltb mostN (h .N) || cond a (not (eqb (h .second) 0)) (cond b false (not (eqb (h .second) 0)))) ≡ false
-        → Small h
+        → (ltb mostDegree (r a b) || ltb mostN (h .N) || cond a other (cond b false other)) ≡ false → Small h
     go true b p q t =
         let w = parts (h .first) (h .N) (not (eqb (h .second) 0)) t in
         let z = zero-second (h .second) (w .2) in

@@ -11,7 +11,7 @@ use Rattle.request.specs.Refusal.{least}
 least-at : (n : ℕ) (bad : ℕ → Bool) (i : ℕ) → i < n → ((k : ℕ) → k < i → bad k ≡ false) → bad i ≡ true → least n bad ≡ i
 unfolding least
 least-at zero bad i l before here = absurd (not-suc-le-zero l)
-least-at (suc n) bad zero l before here = rw here
+least-at (suc n) bad zero l before here = rw here refl
 least-at (suc n) bad (suc i) l before here =
     rw (before 0 (omega arith))
     (ap suc (least-at n (λ k. bad (suc k)) i (le-of-suc-le-suc l) (λ k m. before (suc k) (suc-le-suc m)) here))
@@ -29,7 +29,8 @@ unfolding least
 least-before zero bad k l = absurd (not-suc-le-zero l)
 least-before (suc n) bad k l = go (bad zero) refl k l (least-before n (λ k. bad (suc k)))
   where
-    go : (b : Bool) → bad zero ≡ b → (k : ℕ) → k < cond b zero (suc (least n (λ k. bad (suc k)))) → ((k : ℕ) → k < least n (λ k. bad (suc k)) → bad (suc k) ≡ false) → bad k ≡ false
+    go : (b : Bool) → bad zero ≡ b → (k : ℕ) → k < cond b zero (suc (least n (λ k. bad (suc k))))
+        → ((k : ℕ) → k < least n (λ k. bad (suc k)) → bad (suc k) ≡ false) → bad k ≡ false
     go true e k m rest = absurd (not-suc-le-zero m)
     go false e zero m rest = e
     go false e (suc k) m rest = rest k (le-of-suc-le-suc m)

@@ -8,3 +8,6 @@ pub record Request : Type 0 where
   pub head : Head
   pub surface : List ℤ
   pub path : List ℤ
+
+abbrev pub requestOf : Head → List ℤ → List ℤ → Request
+requestOf head surface path = record { head = head; surface = surface; path = path }

@@ -16,10 +16,10 @@ use Rattle.runs.specs.Ride.{leaf, below, pathTerm, pathTerms}
 use Rattle.runs.proofs.Walk.{walk-zero, walk-none, walk-cons}
 
 -- a term's step leaves nets that agree as far as so many arguments reach agreeing as far as one fewer do
-abbrev Keeps : (ℕ → Net → Net → Type 0) → Term → Type 0
+abbrev pub Keeps : (ℕ → Net → Net → Type 0) → Term → Type 0
 Keeps agree t = (left : ℕ) (p q : Net) → agree (suc left) p q → agree left (step (t .argument) p) (step (t .argument) q)
 
-walk-reach : (agree : ℕ → Net → Net → Type 0) (F : Reading) → ((s : ℕ) (p q : Net) → agree 0 p q → F s p ≡ F s q)
+pub walk-reach : (agree : ℕ → Net → Net → Type 0) (F : Reading) → ((s : ℕ) (p q : Net) → agree 0 p q → F s p ≡ F s q)
     → (T : List Term) → Every (Keeps agree) T → (left begun s : ℕ) (p q : Net) → agree left p q → walk T left begun F s p ≡ walk T left begun F s q
 walk-reach agree F last T e zero begun s p q h = walk-zero T begun F s p ∙ last s p q h ∙ sym (walk-zero T begun F s q)
 walk-reach agree F last [] e (suc left) begun s p q h = walk-none left begun F s p ∙ sym (walk-none left begun F s q)
@@ -30,7 +30,7 @@ walk-reach agree F last (t ∷ T) (more keeps e) (suc left) begun s p q h =
     (walk-reach agree F last T e (suc left) (suc left) s p q h)
     ∙ sym (walk-cons t T left begun F s q)
 
-leaf-same : (R s : ℕ) (p q : Net) → p 0 0 ≡ q 0 0 → leaf R s p ≡ leaf R s q
+pub leaf-same : (R s : ℕ) (p q : Net) → p 0 0 ≡ q 0 0 → leaf R s p ≡ leaf R s q
 unfolding leaf
 leaf-same R s p q e = rw e
 

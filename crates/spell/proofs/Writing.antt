@@ -1,14 +1,13 @@
 -- Laws of writing one thing after another into a buffer. Assumes nothing.
-use mathlib.Core.Path.{_≡_, refl, sym, ap, _∙_, subst}
-use mathlib.Core.List.{List, [], _∷_, _++_, append-assoc, append-nil}
-use Prim.Native.Nat.{ℕ, suc, _+_, _*_, _≤_, _<_}
+use mathlib.Core.Path.{_≡_, refl, sym, _∙_, subst}
+use mathlib.Core.List.{List, [], _∷_, _++_}
+use Prim.Native.Nat.{ℕ, suc, _+_, _≤_, _<_}
 use native.Mathlib.Nat.{add-zero, zero-add}
 use native.Mathlib.Numerals.{add-one}
 use native.Mathlib.Omega.{arith}
-use lib.IntN.{ℤ, pos}
 use lib.ListN.{length, getD, take, drop, set, length-append, length-set}
 use lib.Seq.{sets, sets-eq, take-all, take-at, take-suc}
-use Rattle.spell.specs.Decimal.{decimal, spaced, Front, Written}
+use Rattle.spell.specs.Decimal.{Front, Written}
 
 -- stores one after the other, and one more after a run of them
 module _ {A : Type 0} where
@@ -54,16 +53,6 @@ module _ (most : ℕ) (l : List ℕ) (i : ℕ) (a : List ℕ) (m : List ℕ) (j 
     small = omega (arith, w .small, x .small);
   }
 
-spaced-append : (a b : List ℤ) → spaced (a ++ b) ≡ spaced a ++ spaced b
-unfolding spaced
-spaced-append [] b = refl
-spaced-append (z ∷ a) b = ap (λ s. 32 ∷ s) (rw (spaced-append a b) (sym (append-assoc (decimal z) (spaced a) (spaced b))))
-
-pub spaced-more : (l : List ℤ) (k : ℕ) → k < length l → spaced (take (k + 1) l) ≡ spaced (take k l) ++ 32 ∷ decimal (getD l k (pos 0))
-unfolding spaced
-spaced-more l k h =
-    rw (add-one k, take-suc l k (pos 0) h) (spaced-append (take k l) _ ∙ rw append-nil)
-
 -- a loop over bytes: k of them are written
 pub record Copying (s : List ℕ) (l : List ℕ) (i : ℕ) (m : List ℕ) (k : ℕ) : Type 0 where
   pub upto : k ≤ length s
@@ -88,29 +77,3 @@ module _ (s : List ℕ) (l : List ℕ) (i : ℕ) (m : List ℕ) (k : ℕ) (c : C
   copying-all h =
       let e : k ≡ length s = omega arith in
       rw (← e) (subst (λ t. Written k l i t m (i + k)) (take-all k s (omega arith)) (c .so-far))
-
--- a loop over numbers: k of them are written, up to a place
-pub record Listing (s : List ℤ) (l : List ℕ) (i : ℕ) (m : List ℕ) (j k : ℕ) : Type 0 where
-  pub upto : k ≤ length s
-  pub size : length m ≡ length l
-  pub so-far : Written (21 * k) l i (spaced (take k s)) m j
-
-pub listing-none : (s : List ℤ) (l : List ℕ) (i : ℕ) → Listing s l i l i 0
-unfolding spaced
-listing-none s l i = record { upto = omega arith; size = refl; so-far = written-none 0 l i [] l i }
-
-module _ (s : List ℤ) (l : List ℕ) (i : ℕ) (m : List ℕ) (j k : ℕ) (c : Listing s l i m j k) where
-  pub listing-more : k < length s → (n : List ℕ) (e : ℕ) → length n ≡ length m
-      → Written 21 m j (32 ∷ decimal (getD s k (pos 0))) n e → Listing s l i n e (k + 1)
-  listing-more h n e z w = record {
-    upto = omega arith;
-    size = z ∙ c .size;
-    so-far =
-        let q : 21 * (k + 1) ≡ 21 * k + 21 = omega arith in
-        rw (q, spaced-more s k h) (written-then (21 * k) l i _ m j 21 _ n e (c .so-far) w);
-  }
-
-  pub listing-all : length s ≤ k → Written (21 * length s) l i (spaced s) m j
-  listing-all h =
-      let e : k ≡ length s = omega arith in
-      rw (← e) (subst (λ t. Written (21 * k) l i (spaced t) m j) (take-all k s (omega arith)) (c .so-far))

@@ -1,4 +1,4 @@
--- How a whole number and an answer line are written, and what a buffer holds then. Assumes nothing.
+-- How a whole number and a named number are written, and what a buffer holds then. Assumes nothing.
 use mathlib.Core.Path.{_≡_}
 use mathlib.Core.Bool.{true, false}
 use mathlib.Core.List.{List, [], _∷_, _++_}
@@ -22,26 +22,9 @@ unfoldable pub decimal : ℤ → List ℕ
 decimal (pos n) = digits n
 decimal (negsuc n) = 45 ∷ digits (suc n)
 
--- numbers with one space before each
-unfoldable pub spaced : List ℤ → List ℕ
-spaced [] = []
-spaced (z ∷ zs) = 32 ∷ decimal z ++ spaced zs
-
 -- `name n` and a newline
 unfoldable pub named : List ℕ → ℕ → List ℕ
 named name n = name ++ 32 ∷ digits n ++ 10 ∷ []
-
--- `number place count`
-unfoldable pub verdict : ℕ → ℕ → ℕ → List ℕ
-verdict number place count = digits number ++ 32 ∷ digits place ++ 32 ∷ digits count
-
--- ` | numerators | points`
-unfoldable pub lists : List ℤ → List ℤ → List ℕ
-lists exact points = 32 ∷ 124 ∷ spaced exact ++ 32 ∷ 124 ∷ spaced points
-
--- both and a newline
-unfoldable pub answerLine : ℕ → ℕ → ℕ → List ℤ → List ℤ → List ℕ
-answerLine number place count exact points = verdict number place count ++ lists exact points ++ 10 ∷ []
 
 -- bytes were written to the front of a buffer, up to an end; the rest of it stays
 pub record Front (bytes before now : List ℕ) (end : ℕ) : Type 0 where

@@ -1,2 +1,2 @@
--- Numbers and answer lines as text, as definitions that compute on lists of bytes. Assumes nothing.
+-- Numbers as text, as definitions that compute on lists of bytes. Assumes nothing.
 pub mod Decimal

@@ -1,9 +1,4 @@
--- How a net is held and lowered, the table of terms, what the sum over runs asks and leaves, and the contract. Assumes nothing.
-pub mod Layout
-pub mod Lowered
-pub mod Flat
-pub mod Table
-pub mod Owed
-pub mod Formed
+-- The table of a ride's terms, a surface loaded, and the contract. Assumes nothing.
+pub mod Filled
 pub mod Loaded
 pub mod Contract

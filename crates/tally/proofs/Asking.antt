@@ -7,12 +7,13 @@ use native.Mathlib.Omega.{arith}
 use lib.ListN.{length, take, drop, length-append}
 use lib.Seq.{take-append-seam}
 use borrow.Author.Tests.{le-ltb}
-use Rattle.door.specs.Contract.{replyOf, over, room, countAnswered, replyAfter, Answered}
+use Rattle.replies.specs.Reply.{room, over}
+use Rattle.door.specs.Contract.{replyOf, countAnswered, replyAfter, Answered}
 use Rattle.wire.specs.Start.{recordIn, behind}
-use Rattle.trace.specs.Cut.{pairIn}
-use Rattle.trace.proofs.Cutting.{refuted}
-use Rattle.tally.specs.Replay.{sameBytes, agrees}
-use Rattle.tally.proofs.Numbers.{same-bytes, bytes-same}
+use Rattle.pairs.specs.Cut.{pairIn}
+use Rattle.pairs.proofs.Cutting.{refuted}
+use Rattle.fives.specs.Replay.{sameBytes, agrees}
+use Rattle.fives.proofs.Numbers.{same-bytes, bytes-same}
 
 -- the door's reply stands at the front of the lent bytes
 pub record Replied (request : List ℕ) (n : ℕ) (after : List ℕ) : Type 0 where

@@ -1,6 +1,4 @@
--- Laws of the five numbers, of their reader and of their lines. Assumes nothing.
-pub mod Numbers
+-- Laws of a comparison with today's reply, and of the reader. Assumes nothing.
 pub mod Asking
 pub mod Reading
-pub mod Telling
 pub mod Promises

@@ -4,12 +4,10 @@ use mathlib.Core.Path.{_≡_, sym, ap, _∙_}
 use mathlib.Core.List.{List, []}
 use Prim.Native.Nat.{ℕ}
 use Rattle.whole.proofs.Determined.{Determined}
-use Rattle.trace.specs.Parts.{uncut}
-use Rattle.tally.specs.declared.Five.{Five}
+use Rattle.feed.specs.Parts.{uncut}
+use Rattle.fives.specs.declared.Five.{Five}
 use Rattle.tally.specs.declared.Reader.{Reader}
-use Rattle.tally.specs.Replay.{replayed}
-use Rattle.tally.specs.Read.{blankReader, afterPart, afterParts, fiveIn}
-use Rattle.tally.specs.Lines.{Told}
+use Rattle.tally.specs.Read.{blankReader, afterPart, afterParts, fiveIn, replayed}
 use Rattle.tally.proofs.Reading.{numbers-of, begun, after-more, after-all}
 
 -- ---- the contracts fix their results
@@ -25,17 +23,6 @@ finish-determined reader = record { value = _; only = λ r e. e }
 
 pub replay-determined : (bytes : List ℕ) → Determined (λ (r : Five). r ≡ replayed bytes)
 replay-determined bytes = record { value = _; only = λ r e. e }
-
--- how many bytes were written, and the buffer
-pub record Wrote : Type 0 where
-  pub count : ℕ
-  pub out : List ℕ
-
-pub write-determined : (five : Five) (out : List ℕ) → Determined (λ (r : Wrote). Told five out (r .count) (r .out))
-write-determined five out = record { value = record { count = _; out = _ }; only = λ r t. both (t .counted) (t .written) }
-  where
-    both : {r : Wrote} {m : ℕ} {l : List ℕ} → r .count ≡ m → r .out ≡ l → r ≡ record { count = m; out = l }
-    both e f = rw (← e, ← f)
 
 -- ---- parts and the whole
 

@@ -6,29 +6,17 @@ use Prim.Native.Nat.{ℕ}
 use native.Mathlib.Omega.{arith}
 use lib.ListN.{take}
 use Rattle.door.specs.Contract.{replyOf}
-use Rattle.trace.specs.Cut.{Pair, longestRecord, cut}
-use Rattle.trace.specs.Feed.{Feed, folded, blank, heldOf, feedIn, feedOf as fedOf}
-use Rattle.trace.specs.Parts.{fed, uncut}
-use Rattle.trace.proofs.Parts.{fed-more}
-use Rattle.trace.proofs.Reading.{folded-is, took, Proper, proper-fed, held-again}
-use Rattle.tally.specs.declared.Tally.{Tally}
+use Rattle.pairs.specs.Cut.{longestRecord, cut}
+use Rattle.feed.specs.Feed.{Feed, blank, heldOf, feedIn, feedOf as fedOf}
+use Rattle.feed.specs.Parts.{fed, uncut}
+use Rattle.feed.proofs.Parts.{fed-more}
+use Rattle.feed.proofs.Reading.{took, Proper, proper-fed, held-again}
+use Rattle.fives.specs.declared.Tally.{Tally}
 use Rattle.tally.specs.declared.Reader.{Reader}
-use Rattle.tally.specs.Replay.{agrees, howMany, firstFrom, five, cappedFive, replayed}
-use Rattle.tally.specs.Read.{tallyOf, counted, counts, noPairs, feedOf, readerOf, step, blankReader, afterPart, afterParts, fiveIn}
-use Rattle.tally.proofs.Numbers.{tally-more}
-
-pub counts-is : (door : List ℕ → List ℕ) (t : Tally) (p : Pair) → counted t (agrees door p) ≡ counts door t p
-unfolding counts
-counts-is door t p = refl
-
-no-pairs : (door : List ℕ → List ℕ) → noPairs ≡ tallyOf door []
-unfolding tallyOf howMany firstFrom
-no-pairs door = refl
-
-folded-tally : (door : List ℕ → List ℕ) (ps : List Pair) → folded (counts door) noPairs ps ≡ tallyOf door ps
-folded-tally door ps =
-    ap (λ (t : Tally). folded (counts door) t ps) (no-pairs door)
-    ∙ folded-is (counts door) (tallyOf door) (λ qs p. sym (counts-is door _ p) ∙ tally-more door qs p) ps
+use Rattle.fives.specs.Replay.{five, cappedFive}
+use Rattle.fives.specs.Count.{tallyOf, counts, noPairs}
+use Rattle.tally.specs.Read.{replayed, feedOf, readerOf, step, blankReader, afterPart, afterParts, fiveIn}
+use Rattle.fives.proofs.Numbers.{folded-tally}
 
 pub reader-is : (held held′ : List ℕ) (rest : ℕ) (tally : Tally) (s : Feed Tally) → feedIn held rest tally ≡ s
     → held′ ≡ heldOf (take rest held)

@@ -1,5 +1,2 @@
--- The replay's five numbers of a whole trace, the reader that gathers them, and their five lines. Assumes nothing.
-pub mod Replay
+-- The reader that gathers the replay's five numbers. Assumes nothing.
 pub mod Read
-pub mod Lines
-pub mod Examples

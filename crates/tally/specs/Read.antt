@@ -1,45 +1,20 @@
 -- The reader of the five numbers: a fold of the pairs. What a part does is defined for every reader, also for one that no
 -- reading makes. That a reader has the five numbers of what it took is in proofs/Reading.antt. Assumes nothing.
-use mathlib.Core.Bool.{Bool, cond}
 use mathlib.Core.List.{List, [], _∷_}
-use Prim.Native.Nat.{ℕ, _+_}
-use lib.Dec.{eqb}
-use lib.ListN.{length}
+use Prim.Native.Nat.{ℕ}
 use Rattle.door.specs.Contract.{replyOf}
-use Rattle.trace.specs.Cut.{Pair, longestRecord}
-use Rattle.trace.specs.Feed.{capped, Feed, blank, stepped, heldOf, feedIn, Moves}
-use Rattle.trace.specs.Parts.{fed}
-use Rattle.tally.specs.Replay.{agrees, differs, howMany, firstFrom}
-use Rattle.tally.specs.declared.Five.{Five}
-use Rattle.tally.specs.declared.Tally.{Tally}
+use Rattle.pairs.specs.Cut.{longestRecord}
+use Rattle.feed.specs.Feed.{Feed, blank, stepped, heldOf, feedIn}
+use Rattle.feed.specs.Parts.{fed}
+use Rattle.fives.specs.declared.Five.{Five}
+use Rattle.fives.specs.declared.Tally.{Tally}
+use Rattle.fives.specs.Replay.{five, cappedFive}
+use Rattle.fives.specs.Count.{counts, noPairs}
 use Rattle.tally.specs.declared.Reader.{Reader}
-use Rattle.tally.specs.declared.Moved.{Moved as After}
 
--- the numbers of pairs
-unfoldable pub tallyOf : (List ℕ → List ℕ) → List Pair → Tally
-tallyOf door pairs =
-    record {
-      calls = capped (length pairs);
-      same = capped (howMany (agrees door) pairs);
-      differ = capped (howMany (differs door) pairs);
-      first = capped (firstFrom 1 (differs door) pairs);
-    }
-
--- one more pair, which agrees or differs
-unfoldable pub counted : Tally → Bool → Tally
-counted t agree =
-    record {
-      calls = capped (t .calls + 1);
-      same = cond agree (capped (t .same + 1)) (t .same);
-      differ = cond agree (t .differ) (capped (t .differ + 1));
-      first = cond agree (t .first) (cond (eqb (t .first) 0) (capped (t .calls + 1)) (t .first));
-    }
-
-unfoldable pub counts : (List ℕ → List ℕ) → Tally → Pair → Tally
-counts door t pair = counted t (agrees door pair)
-
-abbrev pub noPairs : Tally
-noPairs = record { calls = 0; same = 0; differ = 0; first = 0 }
+-- what the replay of a trace answers
+unfoldable pub replayed : List ℕ → Five
+replayed bytes = cappedFive (five longestRecord replyOf bytes)
 
 -- what a byte does
 abbrev pub step : Feed Tally → ℕ → Feed Tally
@@ -68,8 +43,3 @@ unfoldable pub fiveIn : Reader → Five
 fiveIn reader =
     let tally = reader .tally in
     record { calls = tally .calls; same = tally .same; differ = tally .differ; first = tally .first; rest = reader .rest }
-
--- some bytes of a part were taken
-abbrev pub Moved : List ℕ → ℕ → Tally → List ℕ → List ℕ → After → Type 0
-Moved held rest tally part held′ after = Moves longestRecord (counts replyOf) held rest tally part held′ (after .rest)
-    (after .tally) (after .bytes)

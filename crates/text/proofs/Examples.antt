@@ -5,9 +5,10 @@ use mathlib.Core.Bool.{true, false}
 use mathlib.Core.List.{List, [], _∷_, _++_, map}
 use Prim.Native.Nat.{ℕ}
 use lib.IntN.{pos}
-use Rattle.text.specs.Words.{isBlank, isSolid, isDigit, run, every, wordAfter, spelled, signed, digitsWithin, numberOf, isAge}
-use Rattle.text.specs.Line.{Said, number, headed, value, afterValues, values, listed, roomed, aged, ended, request, tooLongSaid, said}
-use Rattle.text.specs.declared.Cursor.{Cursor}
+use Rattle.words.specs.Words.{isBlank, isSolid, isDigit, run, every, wordAfter, next, spelled, signed, digitsWithin, numberOf, isAge, ageOf}
+use Rattle.words.specs.declared.Cursor.{Cursor}
+use Rattle.numbers.specs.Numbers.{number, headed, value, afterValues, values, listed}
+use Rattle.text.specs.Line.{Said, roomed, aged, ended, request, begun, said}
 use Rattle.text.specs.declared.Rooms.{Rooms}
 
 -- `1 1 0 1 2 0 100 2 0 1024`
@@ -50,5 +51,6 @@ lines-are : map said lines ≡ says (record { start = 20; end = 24; wrong = 0 })
     ∷ says (record { start = 25; end = 30; wrong = 4 }) own 0
     ∷ says (record { start = 31; end = 32; wrong = 4 }) own 1
     ∷ []
-unfolding p1 lines own says said request tooLongSaid ended aged roomed headed listed values afterValues value number numberOf digitsWithin isAge signed spelled wordAfter every run isDigit isSolid isBlank
+unfolding p1 lines own says said request begun ended aged roomed headed listed values afterValues value number numberOf
+    digitsWithin ageOf isAge signed spelled next wordAfter every run isDigit isSolid isBlank
 lines-are = refl

@@ -1,7 +1,5 @@
--- Laws for the proofs of the readers. Assumes nothing.
-pub mod Runs
-pub mod Cases
-pub mod Keeping
+-- Laws of what a line says. Assumes nothing.
+pub mod Readers
 pub mod Back
 pub mod Determined
 pub mod Examples

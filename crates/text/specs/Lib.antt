@@ -1,5 +1,3 @@
--- The text of requests, as definitions that compute on lists of bytes. Assumes nothing.
-pub mod Words
+-- What a request line says, as definitions that compute on lists of bytes, and what its readers promise. Assumes nothing.
 pub mod Line
-pub mod Kept
 pub mod Read

@@ -1,31 +1,18 @@
-// Request lines, read: what a line says, or what is wrong with it and where. A cursor goes from word to word; once it is
-// refused it stays where the wrong word stands, so the readers go on straight to the end of the line.
-mod lines;
-mod numbers;
-mod word;
-
+// Request lines, read: what a line says, or what is wrong with it and where. The readers are handed a cursor and hand one on,
+// straight to the end of the line; once it is refused they read nothing more.
 ghost use mathlib.Core.Path.{_≡_};
-ghost use Prim.Native.Nat.{_≤_};
-ghost use lib.ListN.{length};
-ghost use Rattle.text.specs.Line.{longest, isPassed, said, request};
-ghost use Rattle.text.specs.Read.{ReadsLine};
-pub use lines::Piece;
-pub use lines::cut;
-use numbers::read_age;
-use numbers::read_end;
+ghost use Rattle.words.specs.Read.{Inside};
+ghost use Rattle.text.specs.Read.{Begins, ReadsRooms, ReadsAge, ReadsEnd, ReadsLine};
+use numbers::number;
 use numbers::read_head;
 use numbers::read_list;
-use numbers::read_rooms;
 use request::Head;
-use word::skip;
-
-// The word that was read last stands from start to before end, and reading goes on at end; or it is the word that is wrong,
-// for the reason `wrong`, and nothing more is read.
-pub struct Cursor {
-    pub start: usize,
-    pub end: usize,
-    pub wrong: u8,
-}
+use words::Cursor;
+use words::LEFT_OVER;
+use words::TOO_LONG;
+use words::age_of;
+use words::is_age;
+use words::next;
 
 // Room for numerators and for points, and whether the line gives them.
 pub struct Rooms {
@@ -44,42 +31,132 @@ pub struct Reading {
     pub age: u16,
 }
 
-// Why a line is unreadable: a word that is not a whole number, a number out of its bounds, too few words, a word left
-// over, a line too long.
-pub const NOT_NUMBER: u8 = 1;
-
-pub const OUTSIDE: u8 = 2;
-
-pub const TOO_FEW: u8 = 3;
-
-pub const LEFT_OVER: u8 = 4;
-
-pub const TOO_LONG: u8 = 5;
-
-// Whether a line is passed over.
-pub fn is_passed(line: &[u8]) -> bool
-    ensures { λ r. ⌜ r ≡ isPassed (now (line .entry)) ⌝ }
-{
-    if line.len() == 0 {
-        return true;
-    }
-    if line[0] == b'#' {
-        return true;
-    }
-    skip(line, 0, true) == line.len()
+pub struct Roomed {
+    pub cursor: Cursor,
+    pub rooms: Rooms,
 }
 
-// A line that is not too long.
-fn read_request(line: &[u8], surface: &mut [i32; 64], path: &mut [i32; 64]) -> Reading
-    requires { ⌜ length (now line) ≤ longest ⌝ }
-    ensures { λ r. ⌜ ReadsLine (now (line .entry)) (request (now (line .entry))) (now (surface .entry)) (now (path .entry)) (now (surface .exit)) (now (path .exit)) r ⌝ }
+pub struct Aged {
+    pub cursor: Cursor,
+    pub age: u16,
+}
+
+// A word that is left over.
+fn left_over(word: Cursor) -> Cursor
+    ensures { λ r. ⌜ r ≡ record { start = word .start; end = word .end; wrong = 4 } ⌝ }
 {
-    let first = Cursor {
+    Cursor {
+        start: word.start,
+        end: word.end,
+        wrong: LEFT_OVER,
+    }
+}
+
+// The rooms: none where no word is left or the next one is the age, else two numbers; a word alone is left over.
+fn read_rooms(line: &[u8], from: Cursor) -> Roomed
+    requires { ⌜ Inside (now line) from ⌝ }
+    ensures { λ r. ⌜ ReadsRooms (now (line .entry)) from r ⌝ }
+{
+    let own = Rooms {
+        given: false,
+        exact: 13,
+        points: 13,
+    };
+    let word = next(line, from);
+    if word.wrong != 0 {
+        return Roomed {
+            cursor: from,
+            rooms: own,
+        };
+    }
+    let start = word.start;
+    let end = word.end;
+    if is_age(&line[start..end]) {
+        return Roomed {
+            cursor: from,
+            rooms: own,
+        };
+    }
+    let second = next(line, word);
+    if second.wrong != 0 {
+        return Roomed {
+            cursor: left_over(word),
+            rooms: own,
+        };
+    }
+    let exact = number(line, from, 0, 64);
+    let points = number(line, exact.cursor, 0, 64);
+    let cursor = points.cursor;
+    Roomed {
+        cursor,
+        rooms: Rooms {
+            given: true,
+            exact: exact.size as usize,
+            points: points.size as usize,
+        },
+    }
+}
+
+// The age: 0 where no word is left, else the number of a word that begins with `age=`.
+fn read_age(line: &[u8], from: Cursor) -> Aged
+    requires { ⌜ Inside (now line) from ⌝ }
+    ensures { λ r. ⌜ ReadsAge (now (line .entry)) from r ⌝ }
+{
+    let word = next(line, from);
+    if word.wrong != 0 {
+        return Aged {
+            cursor: from,
+            age: 0,
+        };
+    }
+    let start = word.start;
+    let end = word.end;
+    let found = age_of(&line[start..end]);
+    Aged {
+        cursor: Cursor {
+            start,
+            end,
+            wrong: found.wrong,
+        },
+        age: found.size as u16,
+    }
+}
+
+// The end: no word is left.
+fn read_end(line: &[u8], from: Cursor) -> Cursor
+    requires { ⌜ Inside (now line) from ⌝ }
+    ensures { λ r. ⌜ ReadsEnd (now (line .entry)) from r ⌝ }
+{
+    let word = next(line, from);
+    if word.wrong != 0 {
+        return from;
+    }
+    left_over(word)
+}
+
+// Where reading begins: a line that is too long is refused at once.
+fn begin(line: &[u8]) -> Cursor
+    ensures { λ r. ⌜ Begins (now (line .entry)) r ⌝ }
+{
+    if 4096 < line.len() {
+        return Cursor {
+            start: 4096,
+            end: 4096,
+            wrong: TOO_LONG,
+        };
+    }
+    Cursor {
         start: 0,
         end: 0,
         wrong: 0,
-    };
-    let headed = read_head(line, first);
+    }
+}
+
+// What a line says, without its newline. The numbers of its lists are written to the front of the two lent arrays.
+pub fn read_line(line: &[u8], surface: &mut [i32; 64], path: &mut [i32; 64]) -> Reading
+    ensures { λ r. ⌜ ReadsLine (now (line .entry)) (now (surface .entry)) (now (path .entry)) (now (surface .exit)) (now (path .exit)) r ⌝ }
+{
+    let headed = read_head(line, begin(line));
     let values = read_list(line, headed.cursor, surface);
     let numbers = read_list(line, values.cursor, path);
     let lent = read_rooms(line, numbers.cursor);
@@ -95,34 +172,4 @@ fn read_request(line: &[u8], surface: &mut [i32; 64], path: &mut [i32; 64]) -> R
         rooms,
         age: aged.age,
     }
-}
-
-// What a line says, without its newline. The numbers of its lists are written to the front of the two lent arrays.
-pub fn read_line(line: &[u8], surface: &mut [i32; 64], path: &mut [i32; 64]) -> Reading
-    ensures { λ r. ⌜ ReadsLine (now (line .entry)) (said (now (line .entry))) (now (surface .entry)) (now (path .entry)) (now (surface .exit)) (now (path .exit)) r ⌝ }
-{
-    if 4096 < line.len() {
-        return Reading {
-            cursor: Cursor {
-                start: 4096,
-                end: 4096,
-                wrong: TOO_LONG,
-            },
-            head: Head {
-                form: 0,
-                first: 0,
-                second: 0,
-                N: 0,
-            },
-            surface: 0,
-            path: 0,
-            rooms: Rooms {
-                given: false,
-                exact: 13,
-                points: 13,
-            },
-            age: 0,
-        };
-    }
-    read_request(line, surface, path)
 }

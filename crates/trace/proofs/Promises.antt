@@ -1,53 +1,13 @@
--- The contracts of crate trace leave no choice: each fixes its result. Assumes nothing.
+-- The contracts of seeking leave no choice: each fixes its result. Assumes nothing.
 use mathlib.Core.Path.{_≡_}
-use mathlib.Core.Bool.{Bool, _&&_}
 use mathlib.Core.List.{List}
-use Prim.Native.Nat.{ℕ, _+_}
-use lib.Dec.{ltb}
-use lib.ListN.{length, take, set}
+use Prim.Native.Nat.{ℕ}
 use Rattle.whole.proofs.Determined.{Determined}
-use Rattle.wire.specs.Start.{recordIn, behind}
-use Rattle.trace.specs.declared.Turn.{Turn}
 use Rattle.trace.specs.declared.seek.Seeker.{Seeker}
-use Rattle.trace.specs.Cut.{startsPair}
-use Rattle.trace.specs.Feed.{capped, heldOf, Puts, ahead}
 use Rattle.trace.specs.Seek.{seekerOfPair, soughtIn}
-
-pub record-determined : (bytes : List ℕ) → Determined (λ (r : List ℕ). r ≡ recordIn bytes)
-record-determined bytes = record { value = _; only = λ r e. e }
-
-pub behind-determined : (bytes : List ℕ) → Determined (λ (r : List ℕ). r ≡ behind bytes)
-behind-determined bytes = record { value = _; only = λ r e. e }
-
-pub ahead-determined : (most rest : ℕ) (part : List ℕ) → Determined (λ (r : ℕ). r ≡ ahead most rest part)
-ahead-determined most rest part = record { value = _; only = λ r e. e }
-
-pub more-determined : (n : ℕ) → Determined (λ (r : ℕ). r ≡ capped (n + 1))
-more-determined n = record { value = _; only = λ r e. e }
-
-pub settle-determined : (held : List ℕ) (rest : ℕ) → Determined (λ (r : List ℕ). r ≡ heldOf (take rest held))
-settle-determined held rest = record { value = _; only = λ r e. e }
 
 pub begin-determined : (wanted : ℕ) → Determined (λ (r : Seeker). r ≡ seekerOfPair wanted)
 begin-determined wanted = record { value = _; only = λ r e. e }
 
 pub seek-determined : (seeker : Seeker) (part : List ℕ) → Determined (λ (r : Seeker). r ≡ soughtIn seeker part)
 seek-determined seeker part = record { value = _; only = λ r e. e }
-
--- the array and the turn that `put` leaves
-pub record PutBack : Type 0 where
-  pub held : List ℕ
-  pub turn : Turn
-
-pub put-determined : (most : ℕ) (held : List ℕ) (rest b : ℕ)
-    → Determined (λ (r : PutBack). Puts most held rest b (r .held) (r .turn))
-put-determined most held rest b =
-    let whole = ltb rest (length held) && startsPair most (take (rest + 1) (set held rest b)) in
-    record {
-      value = record { held = set held rest b; turn = record { rest = capped (rest + 1); whole = whole } };
-      only = λ r p. all-of (p .held-is) (p .rest-is) (p .whole-is);
-    }
-  where
-    all-of : {r : PutBack} {l : List ℕ} {n : ℕ} {w : Bool} → r .held ≡ l → r .turn .rest ≡ n → r .turn .whole ≡ w
-        → r ≡ record { held = l; turn = record { rest = n; whole = w } }
-    all-of e f g = rw (← e, ← f, ← g)

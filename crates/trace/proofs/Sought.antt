@@ -9,14 +9,14 @@ use lib.Dec.{eqb}
 use lib.ListN.{length, take, length-append}
 use lib.Seq.{take-all}
 use borrow.Author.Tests.{eq-eqb, ne-eqb, eqb-true, eqb-false}
-use Rattle.trace.specs.declared.Turn.{Turn}
+use Rattle.feed.specs.declared.Turn.{Turn}
 use Rattle.trace.specs.declared.seek.Seeker.{Seeker}
-use Rattle.trace.specs.Cut.{Pair, longestRecord, startsPair, pairIn, cut}
-use Rattle.trace.specs.Parts.{fed, uncut}
-use Rattle.trace.specs.Feed.{capped, folded, heldRoom, Feed, blank, stepped, feedOf, heldOf, feedIn, Puts}
+use Rattle.pairs.specs.Cut.{Pair, longestRecord, startsPair, pairIn, cut}
+use Rattle.feed.specs.Parts.{fed, uncut}
+use Rattle.feed.specs.Feed.{capped, folded, heldRoom, Feed, blank, stepped, feedOf, heldOf, feedIn, Puts}
 use Rattle.trace.specs.Seek.{fewer, searched, searchIn, seekerOf, seekerOfPair, soughtIn, soughtInAll, IsPair}
-use Rattle.trace.proofs.Cutting.{left-starts-none, cut-more, cut-none, cut-one, just-whole, within-two}
-use Rattle.trace.proofs.Reading.{put-on, put-whole, put-kept, step-of, nothing-read, Proper, proper-on, proper-step, held-again}
+use Rattle.pairs.proofs.Cutting.{left-starts-none, cut-more, cut-none, cut-one, just-whole, within-two}
+use Rattle.feed.proofs.Reading.{put-on, put-whole, put-kept, step-of, nothing-read, Proper, proper-on, proper-step, held-again}
 
 -- the four ways of a byte
 module _ (held : List ℕ) (rest togo b : ℕ) where

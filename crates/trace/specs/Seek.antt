@@ -7,9 +7,9 @@ use mathlib.Core.List.{List, [], _∷_, _++_}
 use Prim.Native.Nat.{ℕ, suc, _+_, _-_}
 use lib.Dec.{eqb}
 use lib.ListN.{length, take}
-use Rattle.trace.specs.Cut.{Pair, longestRecord, cut}
-use Rattle.trace.specs.Feed.{capped, Feed, heldRoom, blank, stepped, heldOf, feedIn}
-use Rattle.trace.specs.Parts.{fed}
+use Rattle.pairs.specs.Cut.{Pair, longestRecord, cut}
+use Rattle.feed.specs.Feed.{capped, Feed, heldRoom, blank, stepped, heldOf, feedIn}
+use Rattle.feed.specs.Parts.{fed}
 use Rattle.trace.specs.declared.seek.Seeker.{Seeker}
 
 -- how many pairs are still to come, the wanted one with them: one fewer

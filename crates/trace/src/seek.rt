@@ -1,10 +1,8 @@
 // Seeking pair `wanted` of a trace, counted from 1: the same cutting, which stops where that pair is whole and keeps it.
 ghost use mathlib.Core.Path.{_≡_};
 ghost use lib.ListN.{length};
-ghost use Rattle.trace.specs.Feed.{heldRoom, feedIn};
+ghost use Rattle.feed.specs.Feed.{heldRoom, feedIn};
 ghost use Rattle.trace.specs.Seek.{searched, seekerOfPair, soughtIn};
-use crate::put;
-use crate::settle;
 
 // The bytes of the pair that is not whole yet, or of the one that was found, with zeros behind them; how many there are from
 // its start on; and how many pairs are still to come, the wanted one with them: 0 where it was found.
@@ -19,9 +17,6 @@ struct Seen {
     togo: u64,
 }
 
-// The greatest length of a record.
-const LONGEST: usize = 126;
-
 // A byte more.
 fn see(held: &mut [u8], rest: u64, togo: u64, b: u8) -> Seen
     requires { ⌜ length (now held) ≡ heldRoom ⌝ }
@@ -30,7 +25,7 @@ fn see(held: &mut [u8], rest: u64, togo: u64, b: u8) -> Seen
     if togo == 0 {
         return Seen { rest, togo };
     }
-    let turn = put(LONGEST, held, rest, b);
+    let turn = feed::put(pairs::LONGEST, held, rest, b);
     if !turn.whole {
         return Seen {
             rest: turn.rest,
@@ -81,6 +76,6 @@ pub fn seek(seeker: Seeker, part: &[u8]) -> Seeker
         togo = seen.togo;
         i += 1;
     }
-    settle(&mut held, rest);
+    feed::settle(&mut held, rest);
     Seeker { held, rest, togo }
 }

@@ -150,20 +150,20 @@ module _ (n : ℤ) (d : ℕ) (h : mag n < 2 ^ 63) (few : d < 2 ^ 63) where
         let all : natAbs n ≡ natAbs n % d + natAbs n / d * d = omega (arith, mul-comm (natAbs n / d) d, div-add-mod (natAbs n) d) in
         beside n _ h (mod-le (natAbs n) d) (ap₂ (λ x y. x -ℤ y) (again-is n h) (product-written .is) ∙ side-left n _ _ all)
 
--- one further from zero than q, which is on n's side and not yet as far
-module _ (n q : ℤ) (h : mag n < 2 ^ 63) (k : mag q < 2 ^ 63) (e : q ≡ onSideOf n (natAbs q)) (m : natAbs q < natAbs n) where
-  pub down-written : ltZ (again n) (pos 0) ≡ true → Written (again q -ℤ pos 1) (onSideOf n (natAbs q + 1))
+-- so many further from zero than q, which is on n's side, and then no further than n
+module _ (n q : ℤ) (x : ℕ) (h : mag n < 2 ^ 63) (k : mag q < 2 ^ 63) (e : q ≡ onSideOf n (natAbs q)) (m : natAbs q + x ≤ natAbs n) (few : x < 2 ^ 63) where
+  pub down-written : ltZ (again n) (pos 0) ≡ true → Written (again q -ℤ toZ w64 x) (onSideOf n (natAbs q + x))
   unfolding onSideOf
-  down-written t = beside n _ h (omega arith) (ap (λ x. x -ℤ pos 1) (again-is q k ∙ e) ∙ down n (natAbs q) (sym (sign-is n h) ∙ t))
+  down-written t = beside n _ h m (ap₂ _-ℤ_ (again-is q k ∙ e) (toZ-pos w64 few) ∙ down n (natAbs q) (sym (sign-is n h) ∙ t))
     where
-      down : (n : ℤ) (x : ℕ) → not (nonNeg n) ≡ true → onSideOf n x -ℤ pos 1 ≡ onSideOf n (x + 1)
-      down (pos a) x t = absurd (true≢false (sym t))
-      down (negsuc a) x t = sym (negℤ-+ℤ (pos x) (pos 1))
+      down : (n : ℤ) (y : ℕ) → not (nonNeg n) ≡ true → onSideOf n y -ℤ pos x ≡ onSideOf n (y + x)
+      down (pos a) y t = absurd (true≢false (sym t))
+      down (negsuc a) y t = sym (negℤ-+ℤ (pos y) (pos x))
 
-  pub up-written : ltZ (again n) (pos 0) ≡ false → Written (again q +ℤ pos 1) (onSideOf n (natAbs q + 1))
+  pub up-written : ltZ (again n) (pos 0) ≡ false → Written (again q +ℤ toZ w64 x) (onSideOf n (natAbs q + x))
   unfolding onSideOf
-  up-written t = beside n _ h (omega arith) (ap (λ x. x +ℤ pos 1) (again-is q k ∙ e) ∙ up n (natAbs q) (sym (sign-is n h) ∙ t))
+  up-written t = beside n _ h m (ap₂ _+ℤ_ (again-is q k ∙ e) (toZ-pos w64 few) ∙ up n (natAbs q) (sym (sign-is n h) ∙ t))
     where
-      up : (n : ℤ) (x : ℕ) → not (nonNeg n) ≡ false → onSideOf n x +ℤ pos 1 ≡ onSideOf n (x + 1)
-      up (pos a) x t = refl
-      up (negsuc a) x t = absurd (true≢false t)
+      up : (n : ℤ) (y : ℕ) → not (nonNeg n) ≡ false → onSideOf n y +ℤ pos x ≡ onSideOf n (y + x)
+      up (pos a) y t = refl
+      up (negsuc a) y t = absurd (true≢false t)

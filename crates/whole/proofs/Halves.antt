@@ -1,28 +1,32 @@
 -- The nearest whole number by a quotient and what it leaves: what the function computes is what the definition says, for
 -- either outcome of its test. Assumes nothing.
-use mathlib.Core.Path.{_≡_, refl, sym, _∙_, ap}
+use mathlib.Core.Path.{_≡_, refl, sym, ap}
 use Prim.Native.Nat.{ℕ, _+_, _-_, _/_, _%_, _≤_, _<_}
-use native.Mathlib.Nat.{div-add-mod, mod-lt, mul-le-mul-right}
+use native.Mathlib.Nat.{div-add-mod, mod-lt, mul-le-mul-right, add-zero}
+use native.Mathlib.Decide.{decLe}
 use native.Mathlib.Omega.{arith}
 use lib.IntN.{ℤ, pos, negsuc, natAbs}
-use Rattle.whole.specs.Round.{onSideOf, nearest, Divided}
+use Rattle.whole.specs.Round.{halfUp, onSideOf, nearest, Divided}
 use Rattle.whole.proofs.Bound.{natAbs-neg}
 use Rattle.whole.proofs.Rounding.{half-up-only}
 
 module _ (n : ℤ) (d : ℕ) (q : ℤ) (left : ℕ) (r : Divided n d q left) where
-  -- less than half is dropped
-  pub stays : left < d - left → q ≡ nearest n d
-  unfolding nearest
-  stays l = r .side ∙ ap (onSideOf n) (half-up-only (natAbs n) d (natAbs q) (omega arith))
+  -- half or more takes one more, less than half none; and there is room for it
+  module _ (up : ℕ) (half : d - left ≤ left → up ≡ 1) (less : left < d - left → up ≡ 0) where
+    pub room : natAbs q + up ≤ natAbs n
+    room = go (decLe (d - left) left)
+      where
+        go : Dec (d - left ≤ left) → natAbs q + up ≤ natAbs n
+        go (yes l) = rw (half l) (omega (arith, mul-le-mul-right (natAbs q) (r .some)))
+        go (no l) = rw (less (omega arith)) (omega (arith, mul-le-mul-right (natAbs q) (r .some)))
 
-  -- half or more takes one more
-  pub goes-further : d - left ≤ left → onSideOf n (natAbs q + 1) ≡ nearest n d
-  unfolding nearest
-  goes-further l = ap (onSideOf n) (half-up-only (natAbs n) d (natAbs q + 1) (omega arith))
-
-  -- and then there is room for it
-  pub room : d - left ≤ left → natAbs q < natAbs n
-  room l = omega (arith, mul-le-mul-right (natAbs q) (r .some))
+    pub goes-there : onSideOf n (natAbs q + up) ≡ nearest n d
+    unfolding nearest
+    goes-there = go (decLe (d - left) left)
+      where
+        go : Dec (d - left ≤ left) → onSideOf n (natAbs q + up) ≡ onSideOf n (halfUp (natAbs n) d)
+        go (yes l) = rw (half l) (ap (onSideOf n) (half-up-only (natAbs n) d (natAbs q + 1) (omega arith)))
+        go (no l) = rw (less (omega arith), add-zero (natAbs q)) (ap (onSideOf n) (half-up-only (natAbs n) d (natAbs q) (omega arith)))
 
 side-size : (n : ℤ) (x : ℕ) → natAbs (onSideOf n x) ≡ x
 unfolding onSideOf

@@ -1,7 +1,7 @@
 // Whole numbers that fit 64 bits: their sum, their product and rounding. What they mean is in specs/, the laws are in
 // proofs/. Callers see plain whole numbers, since the bits of a number stay inside these functions. Assumes nothing.
 ghost use mathlib.Core.Path.{_≡_};
-ghost use Prim.Native.Nat.{_+_, _*_, _/_, _%_, _^_, _≤_, _<_};
+ghost use Prim.Native.Nat.{_+_, _*_, _-_, _/_, _%_, _^_, _≤_, _<_};
 ghost use mathlib.Core.Bool.{not};
 ghost use lib.IntN.{pos, negℤ, natAbs, _+ℤ_, _*ℤ_};
 ghost use lib.Signed.{mag, nonNeg};
@@ -81,21 +81,33 @@ fn left(n: Num, d: u64, q: Num) -> Num
     Num(all - q.0 * d as i64)
 }
 
-// From q one further from zero, on n's side.
-fn further(q: Num, n: Num) -> Num
-    requires { ⌜ (q .0 ≡ onSideOf (n .0) (natAbs (q .0))) × (natAbs (q .0) < natAbs (n .0)) ⌝ }
-    ensures { λ r. ⌜ r .0 ≡ onSideOf (n .0) (natAbs (q .0) + 1) ⌝ }
+// From q so many further from zero, on n's side.
+fn further(q: Num, n: Num, up: u64) -> Num
+    requires { ⌜ (q .0 ≡ onSideOf (n .0) (natAbs (q .0))) × (natAbs (q .0) + up ≤ natAbs (n .0)) × (up ≤ 1) ⌝ }
+    ensures { λ r. ⌜ r .0 ≡ onSideOf (n .0) (natAbs (q .0) + up) ⌝ }
 {
-    if n.0 < 0 { Num(q.0 - 1) } else { Num(q.0 + 1) }
+    if n.0 < 0 {
+        Num(q.0 - up as i64)
+    } else {
+        Num(q.0 + up as i64)
+    }
 }
 
-// The rounded point of n/d by the quotient q and the size m of what it leaves: at least half of d takes one more. Nothing
-// overflows, since m is compared with what it lacks to d.
+// One more, where m is at least half of d. Nothing overflows, since m is compared with what it lacks to d.
+fn more(d: u64, m: u64) -> u64
+    requires { ⌜ m ≤ d ⌝ }
+    ensures { λ r. ⌜ (d - m ≤ m → r ≡ 1) × (m < d - m → r ≡ 0) × (r ≤ 1) ⌝ }
+{
+    if d - m <= m { 1 } else { 0 }
+}
+
+// The rounded point of n/d by the quotient q and the size m of what it leaves. What decides is a number and no branch, since
+// nobody can foresee it.
 fn settled(n: Num, d: u64, q: Num, m: u64) -> Num
     requires { ⌜ Divided (n .0) d (q .0) m ⌝ }
     ensures { λ r. ⌜ r .0 ≡ nearest (n .0) d ⌝ }
 {
-    if d - m <= m { further(q, n) } else { q }
+    further(q, n, more(d, m))
 }
 
 // The rounded point of n/d: the nearest whole number, a half going away from zero. 0 where d is 0. A denominator that is no

@@ -21,6 +21,10 @@ recordStart size kind = wordBytes size ++ wordBytes kind
 unfoldable pub recordOf : ℕ → List ℕ → List ℕ
 recordOf kind contents = recordStart (4 + length contents) kind ++ contents
 
+-- where the numbers of a record begin: after the length, the kind and four bytes
+abbrev pub start : ℕ
+start = 8
+
 -- the least length of a record in a trace: "outside 8 to" the greatest it is none
 abbrev pub shortest : ℕ
 shortest = 8

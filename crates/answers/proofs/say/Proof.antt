@@ -1,7 +1,6 @@
 -- `answers::say` meets its contract: passed over, unreadable, or a request. Assumes nothing.
 use mathlib.Core.Path.{sym, _∙_}
 use native.Mathlib.Omega.{arith}
-use Rattle.answers.specs.Answer.{unreadable}
 use Rattle.spell.proofs.Writing.{written-front}
 use Rattle.answers.proofs.Parts.{surface-size, path-size, fits, line-is, says-passed, says-wrong, says-right}
 use borrow.Author.Needs.{needs}
@@ -17,11 +16,8 @@ returns c = says-passed _ _ _ _ (sym (c .if1 .taken) ∙ c .before .is-passed .e
 read-line-requires : tie.Need-read-line-requires
 read-line-requires c κs = search needs
 
-slice-aggregate-write-bytes : tie.Need-slice-aggregate-write-bytes
-slice-aggregate-write-bytes c = search needs
-
-write-bytes-requires : tie.Need-write-bytes-requires
-write-bytes-requires c κs = search needs
+unreadable-requires : tie.Need-unreadable-requires
+unreadable-requires c κs = search needs
 
 tell-requires : tie.Need-tell-requires
 tell-requires c κs = search needs
@@ -33,27 +29,26 @@ same-length-2 : tie.Need-same-length-2
 same-length-2 c = search needs
 
 returns-2 : tie.Need-returns-2
-unfolding unreadable
 returns-2 c =
     let told = c .before .before in
     let wrote = told .before .before .before .before in
-    let test = wrote .before .before .before in
+    let test = wrote .before .before in
     let read = test .before .before .before in
     let passed = read .before .before .before in
     let room = passed .before .before .before .before .before .pre in
     says-wrong _ _ _ _ (sym (passed .if1 .left) ∙ passed .before .is-passed .ensures) (read .read-line .result .cursor)
-    (read .read-line .ensures .cursor) _ _ (omega (arith, wrote .write-bytes .ensures .small, room .0))
+    (read .read-line .ensures .cursor) _ _ (omega (arith, wrote .unreadable .ensures .small, room .0))
     (test .if2 .taken) _ _ (omega (arith, told .tell .ensures .small, room .1))
-    (written-front _ _ _ _ _ (wrote .write-bytes .ensures)) (written-front _ _ _ _ _ (told .tell .ensures))
+    (written-front _ _ _ _ _ (wrote .unreadable .ensures)) (written-front _ _ _ _ _ (told .tell .ensures))
 
 slice-aggregate-reply : tie.Need-slice-aggregate-reply
-slice-aggregate-reply c = surface-size _ _ _ _ _ (c .before .before .before .before .read-line .ensures)
+slice-aggregate-reply c = surface-size _ _ _ _ (c .before .before .before .before .read-line .ensures)
 
 slice-aggregate-reply-2 : tie.Need-slice-aggregate-reply-2
-slice-aggregate-reply-2 c = path-size _ _ _ _ _ (c .before .before .before .before .before .read-line .ensures)
+slice-aggregate-reply-2 c = path-size _ _ _ _ (c .before .before .before .before .before .read-line .ensures)
 
 reply-requires : tie.Need-reply-requires
-reply-requires c κs = fits _ _ _ _ _ (c .before .before .before .before .before .before .read-line .ensures) _ (omega arith)
+reply-requires c κs = fits _ _ _ _ (c .before .before .before .before .before .before .read-line .ensures) _ (omega arith)
 
 same-length-3 : tie.Need-same-length-3
 same-length-3 c = search needs
@@ -67,7 +62,7 @@ returns-3 c =
     let room = passed .before .before .before .before .before .pre in
     says-right _ _ _ _ (sym (passed .if1 .left) ∙ passed .before .is-passed .ensures) (read .read-line .result .cursor)
     (read .read-line .ensures .cursor) _ _ (omega (arith, replied .reply .ensures .small, room .0)) (test .if2 .left)
-    (rw (← line-is _ _ _ _ _ (read .read-line .ensures)) (written-front _ _ _ _ _ (replied .reply .ensures)))
+    (rw (← line-is _ _ _ _ (read .read-line .ensures)) (written-front _ _ _ _ _ (replied .reply .ensures)))
 
 pub say-spec : {M : Type 1} → statement M
 say-spec =
@@ -76,8 +71,7 @@ say-spec =
     is-passed-requires
     returns
     read-line-requires
-    slice-aggregate-write-bytes
-    write-bytes-requires
+    unreadable-requires
     tell-requires
     same-length
     same-length-2

@@ -18,11 +18,11 @@ rq s = record { head = s .args .head; surface = s .args .surface .now; path = s 
 abbrev begun : tie.Else1 → tie.Start
 begun c = c .before .before .before
 
-abbrev formed : tie.After-write-exact → tie.After-numerators
-formed c = c .before .before .before
-
 abbrev accepted : tie.After-numerators → tie.Else1
-accepted c = c .before .before .before
+accepted c = c .before .before .before .before
+
+abbrev summed : tie.After-write-arg2 → tie.After-numerators
+summed c = c .before .before .before .before .before .before
 
 -- what the judgement says there
 fine : (c : tie.Else1) → Composable (rq (begun c))
@@ -43,29 +43,28 @@ returns c = refused-result (rq (c .before .before .before)) _ _ _ _ (c .before .
 table-requires : tie.Need-table-requires
 table-requires c κs = search needs
 
-numerators-requires : tie.Need-numerators-requires
-numerators-requires c κs = (c .before .table .ensures, fine (c .before .before))
+slice-aggregate-numerators : tie.Need-slice-aggregate-numerators
+slice-aggregate-numerators c = search needs
 
-write-exact-requires : tie.Need-write-exact-requires
-write-exact-requires c κs =
-    let r = room (accepted (c .before .before)) in
-    let most = r .most in
-    let enough = r .exact-room in
-    (omega arith, omega arith)
+numerators-requires : tie.Need-numerators-requires
+numerators-requires c κs = (c .before .before .table .ensures, fine (c .before .before .before), refl)
 
 degree-requires : tie.Need-degree-requires
 degree-requires c κs = search needs
 
-write-points-requires : tie.Need-write-points-requires
-write-points-requires c κs =
-    let w = c .before .before .before .before .before in
-    let n = formed w in
+slice-aggregate-write : tie.Need-slice-aggregate-write
+slice-aggregate-write c = search needs
+
+write-requires : tie.Need-write-requires
+write-requires c κs =
+    let n = summed c in
     let o = accepted n in
     let r = room o in (
-      n .before .before .table .ensures,
+      n .before .before .before .table .ensures,
       let i = r .is in omega arith,
+      r .exact-room,
       r .points-room,
-      points-at (rq (begun o)) _ _ _ (fine o) (n .numerators .ensures) (c .before .before .before .degree .ensures) (r .is) (r .most),
+      points-at (rq (begun o)) _ _ _ (fine o) (n .numerators .ensures .0) (c .before .before .before .before .degree .ensures) (r .is) (r .most),
     )
 
 same-length : tie.Need-same-length
@@ -76,11 +75,11 @@ same-length-2 c = search needs
 
 returns-2 : tie.Need-returns-2
 returns-2 c =
-    let w = c .before .before .before .before .before .before .before in
-    let n = formed w in
+    let w = c .before .before .before in
+    let n = summed w in
     let o = accepted n in
-    accepted-result (rq (begun o)) _ _ _ (fine o) (n .numerators .ensures) (c .before .before .before .before .before .degree .ensures) (room o .is)
-    _ _ _ _ (o .before .before .judge .ensures) refl _ _ (w .write-exact .ensures) (c .before .write-points .ensures)
+    accepted-result (rq (begun o)) _ _ _ (fine o) (n .numerators .ensures .0) (w .before .before .before .before .degree .ensures) (room o .is)
+    _ _ _ _ (o .before .before .judge .ensures) refl _ _ (c .before .before .write .ensures)
 
 pub compose-spec : {M : Type 1} → statement M
 compose-spec =
@@ -89,10 +88,11 @@ compose-spec =
     judge-requires
     returns
     table-requires
+    slice-aggregate-numerators
     numerators-requires
-    write-exact-requires
     degree-requires
-    write-points-requires
+    slice-aggregate-write
+    write-requires
     same-length
     same-length-2
     returns-2)

@@ -1,12 +1,9 @@
 -- `compose::rounded` meets its contract: the denominator is the table's, and the point is a travel. Assumes nothing.
 use mathlib.Core.Path.{_≡_, _∙_, subst}
-use mathlib.Core.List.{List}
 use Prim.Native.Nat.{ℕ, _+_, _-_, _*_, _^_, _≤_, _<_}
 use native.Mathlib.Nat.{mul-pos, one-le-pow}
 use native.Mathlib.Omega.{arith}
-use lib.IntN.{ℤ, pos, natAbs}
-use lib.ListN.{getD}
-use borrow.Author.Needs.{needs}
+use lib.IntN.{ℤ, natAbs}
 use Rattle.whole.specs.Choose.{choose}
 use Rattle.whole.proofs.Rounding.{nearest-size}
 use Rattle.pascal.proofs.Entries.{entry-in, entry-bound}
@@ -22,33 +19,29 @@ some L R h = let e : R + (L - R) ≡ L = omega arith in subst (λ n. 0 < choose 
 read : (c : tie.After-binomial) → c .binomial .result ≡ choose (c .before .args .L) (c .before .args .R)
 read c = c .binomial .ensures ∙ entry-in (c .before .args .L) (c .before .args .R) (c .before .pre .1 .row)
 
-travels : (from : List ℤ) (L r R : ℕ) → PointAt from L r R → natAbs (roundedAt from L r R) ≤ 4096
+travels : (n : ℤ) (L r R : ℕ) → PointAt n L r R → natAbs (roundedAt n L r R) ≤ 4096
 unfolding roundedAt
-travels from L r R p = nearest-size (getD from R (pos 0)) (choose L R * 1024 ^ r) 4096 (mul-pos (some L R (p .here)) (one-le-pow r 1024 (omega arith))) (p .within)
+travels n L r R p = nearest-size n (choose L R * 1024 ^ r) 4096 (mul-pos (some L R (p .here)) (one-le-pow r 1024 (omega arith))) (p .within)
 
 binomial-requires : tie.Need-binomial-requires
 binomial-requires c κs = c .pre .0
 
-numerator-at-requires : tie.Need-numerator-at-requires
-numerator-at-requires c κs = search needs
-
 rounded-requires : tie.Need-rounded-requires
 rounded-requires c κs =
-    let b = c .before in
-    let p = b .before .pre .1 in
+    let p = c .before .pre .1 in
     record {
       few = p .few;
-      some = rw (read b) (some _ _ (p .here));
-      most = rw (b .binomial .ensures) (entry-bound _ _);
-      within = rw (read b, c .numerator-at .ensures) (p .within);
+      some = rw (read c) (some _ _ (p .here));
+      most = rw (c .binomial .ensures) (entry-bound _ _);
+      within = rw (read c) (p .within);
     }
 
-value : (c : tie.After-rounded) → c .rounded .result .0 ≡ roundedAt (c .before .before .before .args .from .now) (c .before .before .before .args .L) (c .before .before .before .args .r) (c .before .before .before .args .R)
+value : (c : tie.After-rounded) → c .rounded .result .0 ≡ roundedAt (c .before .before .args .n .0) (c .before .before .args .L) (c .before .before .args .r) (c .before .before .args .R)
 unfolding roundedAt
-value c = c .rounded .ensures ∙ rw (c .before .numerator-at .ensures, read (c .before .before))
+value c = c .rounded .ensures ∙ rw (read (c .before))
 
 travel-of-requires : tie.Need-travel-of-requires
-travel-of-requires c κs = rw (value c) (travels _ _ _ _ (c .before .before .before .pre .1))
+travel-of-requires c κs = rw (value c) (travels _ _ _ _ (c .before .before .pre .1))
 
 returns : tie.Need-returns
 returns c = c .travel-of .ensures ∙ value (c .before)
@@ -58,7 +51,6 @@ rounded-spec =
     tie.close
     (tie.spec
     binomial-requires
-    numerator-at-requires
     rounded-requires
     travel-of-requires
     returns)

@@ -5,20 +5,22 @@ use Prim.Native.Nat.{_≤_}
 use native.Mathlib.Omega.{arith}
 use lib.ListN.{length}
 use lib.Seq.{length-take-le}
-use Rattle.door.specs.Record.{pathStart, bodyEnd}
-use Rattle.door.proofs.Sizes.{surface-most, path-most, start-most}
+use Rattle.judgement.specs.Record.{pathStart, bodyEnd}
+use Rattle.judgement.proofs.Sizes.{surface-most, path-most, start-most}
 use Rattle.door.proofs.Composing.{request-read, composed-given}
 use borrow.Author.Needs.{needs}
 use Rattle.door.proofs.compose_in.Statement.{statement}
 use Rattle.door.proofs.compose_in.Tie as tie
 
-surface-holds : (c : tie.After-read-numbers) → c .before .before .before .surface-count .result ≤ length (c .read-numbers .last .1 .1 .1 .0)
+surface-holds : (c : tie.After-read-numbers)
+    → c .before .before .before .surface-count .result ≤ length (c .read-numbers .last .1 .1 .1 .0)
 surface-holds c =
     let start = c .before .before .before .before .before in
     let long : length (c .read-numbers .last .1 .1 .1 .0) ≡ 15 = c .read-numbers .kept .1 .1 .1 .0 in
     omega (arith, surface-most (start .args .head) (start .pre .0 .small), c .before .before .before .surface-count .ensures)
 
-path-holds : (c : tie.After-read-numbers2) → c .before .before .before .before .before .path-count .result ≤ length (c .read-numbers2 .last .1 .1 .1 .0)
+path-holds : (c : tie.After-read-numbers2)
+    → c .before .before .before .before .before .path-count .result ≤ length (c .read-numbers2 .last .1 .1 .1 .0)
 path-holds c =
     let start = c .before .before .before .before .before .before .before .before in
     let long : length (c .read-numbers2 .last .1 .1 .1 .0) ≡ 12 = c .read-numbers2 .kept .1 .1 .1 .0 in
@@ -35,20 +37,29 @@ slice-aggregate-read-numbers c = search needs
 
 read-numbers-requires : tie.Need-read-numbers-requires
 unfolding pathStart bodyEnd
-read-numbers-requires c κs = omega (arith, surface-most (c .before .before .before .before .args .head) (c .before .before .before .before .pre .0 .small))
+read-numbers-requires c κs =
+    let start = c .before .before .before .before in
+    omega (arith, surface-most (start .args .head) (start .pre .0 .small))
 
 mul-read-numbers : tie.Need-mul-read-numbers
-mul-read-numbers c = omega (arith, surface-most (c .before .before .before .before .before .before .args .head) (c .before .before .before .before .before .before .pre .0 .small))
+mul-read-numbers c =
+    let start = c .before .before .before .before .before .before in
+    omega (arith, surface-most (start .args .head) (start .pre .0 .small))
 
 add-read-numbers : tie.Need-add-read-numbers
-add-read-numbers c = omega (arith, surface-most (c .before .before .before .before .before .before .args .head) (c .before .before .before .before .before .before .pre .0 .small), c .before .before .before .before .before .before .pre .0 .from-is, start-most (c .before .before .before .before .before .before .args .request .now))
+add-read-numbers c =
+    let start = c .before .before .before .before .before .before in
+    let few = surface-most (start .args .head) (start .pre .0 .small) in
+    omega (arith, few, start .pre .0 .read .from-is, start-most (start .args .request .now))
 
 slice-aggregate-read-numbers-2 : tie.Need-slice-aggregate-read-numbers-2
 slice-aggregate-read-numbers-2 c = search needs
 
 read-numbers-requires-2 : tie.Need-read-numbers-requires-2
 unfolding pathStart bodyEnd
-read-numbers-requires-2 c κs = omega (arith, path-most (c .before .before .before .before .before .before .before .args .head) (c .before .before .before .before .before .before .before .pre .0 .small))
+read-numbers-requires-2 c κs =
+    let start = c .before .before .before .before .before .before .before in
+    omega (arith, path-most (start .args .head) (start .pre .0 .small))
 
 array-share-prefix-surface : tie.Need-array-share-prefix-surface
 array-share-prefix-surface c = surface-holds (c .before .before .before .before)
@@ -77,9 +88,12 @@ returns c =
     let path-read = called .before .before .before .before .before .before in
     let surface-read = path-read .before .before .before in
     let start = surface-read .before .before .before .before .before in
-    composed-given (start .args .request .now) _ _ _ _ _ _ _
-    (request-read (start .args .request .now) (start .args .from) (start .args .head) (surface-read .before .before .before .surface-count .result) (surface-read .before .before .path-count .result) _ _ _ _ (start .pre .0 .from-is) (start .pre .0 .head-is) (surface-read .before .before .before .surface-count .ensures) (surface-read .before .before .path-count .ensures) (surface-read .read-numbers .ensures) (path-read .read-numbers2 .ensures))
-    (start .pre .0 .age-is) refl (start .pre .1) (called .compose .ensures)
+    let counted = surface-read .before .before in
+    let request = request-read (start .args .request .now) (start .args .from) _ (start .args .head) _ _ _ _ _ _
+    (start .pre .0 .read) (counted .before .surface-count .ensures) (counted .path-count .ensures)
+    (surface-read .read-numbers .ensures) (path-read .read-numbers2 .ensures) in
+    composed-given (start .args .request .now) _ _ _ _ _ _ _ request (start .pre .0 .read .age-is) refl (start .pre .1)
+    (called .compose .ensures)
 
 pub compose-in-spec : {M : Type 1} → statement M
 compose-in-spec =

@@ -43,7 +43,8 @@ same-length c = search needs
 returns-2 : tie.Need-returns-2
 returns-2 c =
     let judged = c .before .before .before .before .before .before in
-    sent _ _ (omega arith) _ _ _ _ (judged .judge-record .ensures .answered) (points-sent _ _ _ _ (judged .judge-record .ensures)) (c .before .before .write-reply .ensures)
+    let given = judged .judge-record .ensures in
+    sent _ _ (omega arith) _ _ _ _ (given .answered) (points-sent _ _ _ _ given) (c .before .before .write-reply .ensures)
 
 pub door-reply-spec : {M : Type 1} → statement M
 door-reply-spec =

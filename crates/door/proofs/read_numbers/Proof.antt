@@ -42,10 +42,11 @@ loop-again c =
     let at-loop = c .before .before .before .before .before in
     let args = at-loop .before .before .args in
     let e = c .before .put-number .ensures in
-    let i = at-loop .loop .inv in (
+    let i = at-loop .loop .inv in
+    let read = numberAt (args .bytes .now) (args .from) in (
       omega arith,
       rw e (simp length-set (i .1)),
-      e ∙ rw (i .2) (afterwards-more (at-loop .loop .k) (numberAt (args .bytes .now) (args .from)) (args .numbers .now) _ (omega arith) (c .before .before .number-at .ensures .0)),
+      e ∙ rw (i .2) (afterwards-more (at-loop .loop .k) read (args .numbers .now) _ (omega arith) (c .before .before .number-at .ensures .0)),
     )
 
 same-length : tie.Need-same-length Inv-loop μ-loop

@@ -1,22 +1,23 @@
--- `night::read_all` meets its contract: the invariant is that the reader has taken the parts so far. Assumes nothing.
-use borrow.Author.Needs.{needs}
+-- `night::read_all` meets its contract: the parts so far were taken. Assumes nothing.
 use mathlib.Core.Path.{_≡_, refl}
-use native.Mathlib.Omega.{arith}
 use lib.ListN.{length}
-use Rattle.night.specs.Reading.{AfterSome}
-use Rattle.night.proofs.Parts.{none-read, one-read}
+use Rattle.tally.specs.Read.{afterPart}
+use Rattle.night.specs.Reading.{Took}
+use Rattle.night.proofs.Parts.{took-none, took-more}
+use borrow.Author.Needs.{needs}
+use native.Mathlib.Omega.{arith}
 use Rattle.night.proofs.read_all.Statement.{statement}
 use Rattle.night.proofs.read_all.Tie as tie
 
 abbrev Inv-loop : tie.InvT-loop
-Inv-loop fd part₀ progress night₀ turns₀ part night turns = (length part ≡ length part₀)
-    × AfterSome (night₀ .reader) (night .reader)
+Inv-loop part₀ progress night₀ turns₀ part night turns = (length part ≡ length part₀)
+    × Took afterPart (night₀ .input) (night₀ .reader) (night .input) (night .reader)
 
 abbrev μ-loop : tie.MeasureT-loop
-μ-loop fd part₀ progress night₀ turns₀ part night turns = turns
+μ-loop part₀ progress night₀ turns₀ part night turns = turns
 
 loop-holds : tie.Need-loop-holds Inv-loop μ-loop
-loop-holds c = (refl, none-read _)
+loop-holds c = (refl, took-none _ _ _)
 
 read-part-requires : tie.Need-read-part-requires Inv-loop μ-loop
 read-part-requires c κs = search needs
@@ -25,8 +26,7 @@ same-length : tie.Need-same-length Inv-loop μ-loop
 same-length c = omega arith
 
 returns : tie.Need-returns Inv-loop μ-loop
-returns c = one-read _ (c .before .before .before .before .before .before .before .loop .inv .1)
-    (c .before .before .before .before .read-part .ensures)
+returns c = took-more _ _ _ _ _ _ _ (c .before .before .before .before .before .before .before .loop .inv .1) (c .before .before .before .before .read-part .ensures)
 
 sub-turns : tie.Need-sub-turns Inv-loop μ-loop
 sub-turns c = omega arith
@@ -38,17 +38,13 @@ loop-less : tie.Need-loop-less Inv-loop μ-loop
 loop-less c = omega arith
 
 loop-again : tie.Need-loop-again Inv-loop μ-loop
-loop-again c = (
-  omega arith,
-  one-read _ (c .before .before .before .before .before .before .before .before .loop .inv .1)
-      (c .before .before .before .before .before .read-part .ensures),
-)
+loop-again c = (omega arith, took-more _ _ _ _ _ _ _ (c .before .before .before .before .before .before .before .before .loop .inv .1) (c .before .before .before .before .before .read-part .ensures))
 
 same-length-2 : tie.Need-same-length-2 Inv-loop μ-loop
 same-length-2 c = omega arith
 
 returns-2 : tie.Need-returns-2 Inv-loop μ-loop
-returns-2 c = c .before .before .loop .inv .1
+returns-2 c = c .before .loop .inv .1
 
 pub read-all-spec : {M : Type 1} → statement M
 read-all-spec =

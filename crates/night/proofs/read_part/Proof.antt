@@ -1,7 +1,8 @@
 -- `night::read_part` meets its contract. Assumes nothing.
 use lib.ListN.{length-take}
-use native.Mathlib.Omega.{arith}
+use Rattle.night.proofs.Parts.{took-one}
 use borrow.Author.Needs.{needs}
+use native.Mathlib.Omega.{arith}
 use Rattle.night.proofs.read_part.Statement.{statement}
 use Rattle.night.proofs.read_part.Tie as tie
 
@@ -9,10 +10,10 @@ read-requires : tie.Need-read-requires
 read-requires c κs = search needs
 
 slice-reshare-prefix-take : tie.Need-slice-reshare-prefix-take
-slice-reshare-prefix-take c = omega arith
+slice-reshare-prefix-take c = omega (arith, c .before .before .before .read .ensures .0 .0)
 
 slice-aggregate-take : tie.Need-slice-aggregate-take
-slice-aggregate-take c = simp length-take (omega arith)
+slice-aggregate-take c = simp length-take (omega (arith, c .before .before .before .before .read .ensures .0 .0))
 
 take-requires : tie.Need-take-requires
 take-requires c κs = search needs
@@ -21,8 +22,15 @@ same-length : tie.Need-same-length
 same-length c = search needs
 
 returns : tie.Need-returns
-returns c = search needs
+returns c = took-one _ _ _ _ _ _ (c .before .before .before .before .before .read .ensures .1) (c .take .ensures)
 
 pub read-part-spec : {M : Type 1} → statement M
-read-part-spec = tie.close
-    (tie.spec read-requires slice-reshare-prefix-take slice-aggregate-take take-requires same-length returns)
+read-part-spec =
+    tie.close
+    (tie.spec
+    read-requires
+    slice-reshare-prefix-take
+    slice-aggregate-take
+    take-requires
+    same-length
+    returns)

@@ -1,7 +1,7 @@
 -- `night::tell` meets its contract. Assumes nothing.
-use native.Mathlib.Omega.{arith}
 use lib.ListN.{length-take}
 use borrow.Author.Needs.{needs}
+use native.Mathlib.Omega.{arith}
 use Rattle.night.proofs.tell.Statement.{statement}
 use Rattle.night.proofs.tell.Tie as tie
 
@@ -17,14 +17,17 @@ slice-aggregate-write-named-2 c = search needs
 write-named-requires : tie.Need-write-named-requires
 write-named-requires c κs = search needs
 
+standard-error-requires : tie.Need-standard-error-requires
+standard-error-requires c κs = search needs
+
 array-share-prefix-out : tie.Need-array-share-prefix-out
 array-share-prefix-out c = search needs
 
-slice-aggregate-write-all : tie.Need-slice-aggregate-write-all
-slice-aggregate-write-all c = simp length-take (omega arith)
+slice-aggregate-write : tie.Need-slice-aggregate-write
+slice-aggregate-write c = simp length-take (omega arith)
 
-write-all-requires : tie.Need-write-all-requires
-write-all-requires c κs = search needs
+write-requires : tie.Need-write-requires
+write-requires c κs = search needs
 
 returns : tie.Need-returns
 returns c = search needs
@@ -43,9 +46,10 @@ tell-spec =
     finish-requires
     slice-aggregate-write-named-2
     write-named-requires
+    standard-error-requires
     array-share-prefix-out
-    slice-aggregate-write-all
-    write-all-requires
+    slice-aggregate-write
+    write-requires
     returns
     returns-2
     returns-3)

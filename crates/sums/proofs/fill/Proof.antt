@@ -1,22 +1,26 @@
 -- `sums::fill` meets its contract: the points passed are in the table. Assumes nothing.
 use mathlib.Core.Path.{_≡_, _∙_}
-use Prim.Native.Nat.{ℕ, _+_, _-_, _≤_, _<_}
+use Prim.Native.Nat.{ℕ, _+_, _*_, _-_, _≤_, _<_}
+use native.Mathlib.Nat.{mul-le-mul}
 use native.Mathlib.Omega.{arith}
 use lib.ListN.{length}
 use borrow.Author.Count.{below-none, below-more}
+use borrow.Author.Needs.{needs}
 use Rattle.pascal.proofs.Entries.{entry-in, entry-bound}
 use Rattle.request.proofs.Forms.{small}
-use Rattle.sums.specs.Table.{PointAt}
-use Rattle.sums.proofs.Filling.{here, still, still-long}
-use borrow.Author.Needs.{needs}
+use Rattle.sums.specs.Filled.{PointAt}
+use Rattle.sums.proofs.Filling.{path-most, beside-most, here, still, still-long}
 use Rattle.sums.proofs.fill.Statement.{statement}
 use Rattle.sums.proofs.fill.Tie as tie
 
 abbrev Inv-loop : tie.InvT-loop
-Inv-loop table head path t₀ n c₀ t c = (c ≤ n + 1) × (length t ≡ 80) × ((d : ℕ) → d < c → PointAt head path t d)
+Inv-loop table head path t₀ n c₀ t c = (c ≤ n + 1) × (length t ≡ 40) × ((d : ℕ) → d < c → PointAt head path t d)
 
 abbrev μ-loop : tie.MeasureT-loop
 μ-loop table head path t₀ n c₀ t c = n + 1 - c
+
+abbrev first : tie.In-loop Inv-loop μ-loop → tie.Start Inv-loop μ-loop
+first i = i .before .before .before
 
 cast-n : tie.Need-cast-n Inv-loop μ-loop
 cast-n c = search needs
@@ -24,45 +28,60 @@ cast-n c = search needs
 loop-holds : tie.Need-loop-holds Inv-loop μ-loop
 loop-holds c = (omega arith, c .before .pre .3, below-none _)
 
-first-shares-requires : tie.Need-first-shares-requires Inv-loop μ-loop
-first-shares-requires c κs = let a = c .before .before .before in let s = small _ (a .pre .1) .N-most in (a .pre .2, omega arith, omega arith)
+numbers-requires : tie.Need-numbers-requires Inv-loop μ-loop
+numbers-requires c κs = search needs
 
-second-shares-requires : tie.Need-second-shares-requires Inv-loop μ-loop
-second-shares-requires c κs = let a = c .before .before .before .before in let s = small _ (a .pre .1) .N-most in (a .pre .2, omega arith)
+mul-path-size-at : tie.Need-mul-path-size-at Inv-loop μ-loop
+mul-path-size-at c =
+    let i = c .before in
+    let s = small _ (first i .pre .1) .N-most in
+    let m : i .before .loop .c ≤ 9 = omega arith in
+    record { fits = omega (arith, mul-le-mul (c .numbers .ensures .1) m) }
+
+path-size-at-requires : tie.Need-path-size-at-requires Inv-loop μ-loop
+path-size-at-requires c κs = search needs
+
+beside-requires : tie.Need-beside-requires Inv-loop μ-loop
+beside-requires c κs = let s = small _ (first (c .before .before) .pre .1) .N-most in (c .before .numbers .ensures .1, omega arith)
 
 binomial-requires : tie.Need-binomial-requires Inv-loop μ-loop
-binomial-requires c κs = c .before .before .before .before .before .before .pre .0
+binomial-requires c κs = first (c .before .before .before .before) .pre .0
 
 store-term-requires : tie.Need-store-term-requires Inv-loop μ-loop
 store-term-requires c κs =
-    let a = c .before .before .before .before .before .before .before in
-    let s = small _ (a .pre .1) .N-most in (
+    let i = c .before .before .before .before .before in
+    let a = first i in
+    let s = small _ (a .pre .1) .N-most in
+    let g = a .pre .2 .numbers in (
       omega arith,
-      omega (arith, entry-bound (a .args .head .N) (c .before .before .before .before .before .loop .c), c .binomial .ensures),
-      c .before .before .before .first-shares .ensures .one,
-      c .before .before .second-shares .ensures .one,
+      omega (arith, entry-bound (a .args .head .N) (i .before .loop .c), c .binomial .ensures),
+      path-most (a .args .path .now) g (c .before .before .before .before .numbers .result * i .before .loop .c) _ (c .before .before .before .path-size-at .ensures),
+      beside-most (a .args .path .now) g (c .before .before .before .before .numbers .result) (c .before .before .before .before .numbers .result * i .before .loop .c + 1) _ (c .before .before .beside .ensures),
     )
 
 add-c : tie.Need-add-c Inv-loop μ-loop
-add-c c = let s = small _ (c .before .before .before .before .before .before .before .before .pre .1) .N-most in omega arith
+add-c c = let s = small _ (first (c .before .before .before .before .before .before) .pre .1) .N-most in omega arith
 
 loop-less : tie.Need-loop-less Inv-loop μ-loop
 loop-less c = omega arith
 
 loop-again : tie.Need-loop-again Inv-loop μ-loop
 loop-again c =
-    let l = c .before .before .before .before .before .before in
-    let a = l .before .before in
+    let i = c .before .before .before .before .before .before in
+    let a = first i in
+    let l = i .before in
     let s = small _ (a .pre .1) .N-most in
-    let i = l .loop .inv in
+    let v = l .loop .inv in
     let e = c .store-term .ensures in
-    let w = c .before .binomial .ensures ∙ entry-in (a .args .head .N) (l .loop .c) (omega arith) in (
+    let b = c .before in
+    let w = b .binomial .ensures ∙ entry-in (a .args .head .N) (l .loop .c) (omega arith) in (
       omega arith,
-      rw e (still-long (a .args .head) (a .args .path .now) (l .loop .t) (l .loop .c) (omega arith) (i .1) (c .before .binomial .result) (c .before .before .before .before .first-shares .result) (c .before .before .before .second-shares .result)),
+      rw e (still-long (a .args .head) (a .args .path .now) (l .loop .t) (l .loop .c) (omega arith) (v .1) _ _ _),
       rw e
           (below-more (PointAt (a .args .head) (a .args .path .now) _) (l .loop .c)
-          (λ d m. still (a .args .head) (a .args .path .now) (l .loop .t) (l .loop .c) (omega arith) (i .1) _ _ _ d m (i .2 d m))
-          (here (a .args .head) (a .args .path .now) (l .loop .t) (l .loop .c) (omega arith) (i .1) _ _ _ w (c .before .before .before .before .first-shares .ensures) (c .before .before .before .second-shares .ensures))),
+          (λ d m. still (a .args .head) (a .args .path .now) (l .loop .t) (l .loop .c) (omega arith) (v .1) _ _ _ d m (v .2 d m))
+          (here (a .args .head) (a .args .path .now) (l .loop .t) (l .loop .c) (omega arith) (v .1) _ _ _ w (a .pre .2 .numbers) _ (b .before .before .before .before .numbers .ensures .0)
+          (b .before .before .before .path-size-at .ensures) (b .before .before .beside .ensures))),
     )
 
 returns : tie.Need-returns Inv-loop μ-loop
@@ -76,8 +95,10 @@ fill-spec =
     μ-loop
     cast-n
     loop-holds
-    first-shares-requires
-    second-shares-requires
+    numbers-requires
+    mul-path-size-at
+    path-size-at-requires
+    beside-requires
     binomial-requires
     store-term-requires
     add-c

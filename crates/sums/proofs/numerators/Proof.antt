@@ -1,104 +1,125 @@
 -- `sums::numerators` meets its contract: the sum may begin, and what it leaves are document 01's numerators. Assumes nothing.
-use mathlib.Core.Path.{_≡_}
-use mathlib.Core.Bool.{false}
-use Prim.Native.Nat.{ℕ, _*_, _≤_}
+use mathlib.Core.Path.{sym, _∙_}
 use native.Mathlib.Omega.{arith}
 use borrow.Author.Needs.{needs}
+use Prim.Native.Nat.{_<_}
 use Rattle.request.specs.Request.{Request}
-use Rattle.request.specs.declared.Head.{Head}
-use Rattle.request.specs.Head.{mostDegree, mostN, degree, longest}
-use Rattle.request.specs.Refusal.{notDegree}
-use Rattle.request.proofs.Forms.{degree-most, longest-most}
-use Rattle.sums.proofs.Riding.{ready, rows, joinable, numbers}
+use Rattle.request.proofs.Forms.{or-none}
+use Rattle.request.proofs.Bounds.{travels}
+use Rattle.sums.proofs.Riding.{inside, even, row-asks, row-leaves, triangle-asks, triangle-leaves, first-asks, first-leaves, flat-form, other-form}
 use Rattle.sums.proofs.numerators.Statement.{statement}
 use Rattle.sums.proofs.numerators.Tie as tie
 
 abbrev rq : tie.Start → Request
-rq c = record { head = c .args .head; surface = c .args .surface .now; path = c .args .path .now }
-
--- where the sum begins, and where it is done
-abbrev start : tie.After-sums → tie.Start
-start c = c .before .before .before .before .before .before .before .before .before .before
-
-abbrev begin : tie.After-sums3 → tie.After-sums
-begin c = c .before .before .before
+rq s = record { head = s .args .head; surface = s .args .surface .now; path = s .args .path .now }
 
 degree-requires : tie.Need-degree-requires
 degree-requires c κs = search needs
 
-cast-n : tie.Need-cast-n
-cast-n c = search needs
+travel-requires : tie.Need-travel-requires
+travel-requires c κs = search needs
 
-cast-second : tie.Need-cast-second
-cast-second c = search needs
+settle-requires : tie.Need-settle-requires
+settle-requires c κs =
+    let s = c .before .before .before .before in
+    first-asks (rq s) (s .pre .1) _ (s .pre .2) (c .travel .result .0) (rw (c .travel .ensures) (travels (s .args .surface .now) (s .pre .1 .travels) 0))
+
+same-length : tie.Need-same-length
+same-length c = search needs
+
+returns : tie.Need-returns
+returns c =
+    let v = c .before .before in
+    let i = v .before .before in
+    let s = i .before .before in
+    first-leaves (rq s) (s .pre .1) (sym (i .before .degree .ensures) ∙ i .if1 .taken) _ (s .pre .2) _ (v .travel .ensures) _ (c .before .settle .ensures)
+
+cast-count : tie.Need-cast-count
+cast-count c = search needs
+
+add-count : tie.Need-add-count
+add-count c = search needs
 
 fill-requires : tie.Need-fill-requires
 fill-requires c κs = search needs
 
-load-requires : tie.Need-load-requires
-load-requires c κs = let p = c .before .before .before .before .before .pre .1 in (p .small, p .travels, rw (c .before .before .before .before .degree .ensures) (degree-most _ (p .small)))
+flat-requires : tie.Need-flat-requires
+flat-requires c κs = search needs
 
-of-group-requires : tie.Need-of-group-requires
-of-group-requires c κs = search needs
+cast-rectangle : tie.Need-cast-rectangle
+cast-rectangle c = search needs
 
-add-total : tie.Need-add-total
-add-total c = search needs
-
-slice-aggregate-total : tie.Need-slice-aggregate-total
-slice-aggregate-total c = search needs
-
-total-requires : tie.Need-total-requires
-total-requires c κs =
-    rw (c .before .before .before .of-group .ensures) (
-      ready (rq (start c)) (start c .pre .1) _ (c .before .before .before .before .before .fill .ensures) _ _ (c .before .before .before .before .before .before .before .before .before .degree .ensures) (c .before .before .before .before .load .ensures),
-      rows (rq (start c)) (start c .pre .1) _ (c .before .before .before .before .before .fill .ensures) _ _ (c .before .before .before .before .before .before .before .before .before .degree .ensures) (c .before .before .before .before .load .ensures),
+rectangle-requires : tie.Need-rectangle-requires
+rectangle-requires c κs =
+    let f = c .before .before .before .before .before in
+    let d = f .before .before .before .before in
+    let s = d .before in
+    let x = s .pre .1 in (
+      let o = f .before .before .before .if1 .left in omega arith,
+      row-asks (rq s) x _ (f .fill .ensures) _ (d .degree .ensures) _ (s .pre .2),
+      inside (rq s) x _ (f .fill .ensures) _ (d .degree .ensures),
+      x .travels,
     )
 
-slice-aggregate-join-all : tie.Need-slice-aggregate-join-all
-slice-aggregate-join-all c = search needs
+same-length-2 : tie.Need-same-length-2
+same-length-2 c = search needs
 
--- "L = r·N"
-L-most : (h : Head) (r : ℕ) → r ≡ degree h → notDegree h ≡ false → r * h .N ≤ mostDegree * mostN
-unfolding longest
-L-most h r e small = rw e (longest-most h small)
+returns-2 : tie.Need-returns-2
+returns-2 c =
+    let i = c .before .before .before .before .before in
+    let b = i .before in
+    let f = b .before in
+    let d = f .before .before .before .before in
+    let s = d .before in
+    row-leaves (rq s) (s .pre .1) _ (f .fill .ensures) _ (d .degree .ensures) _ (s .pre .2) (flat-form _ (sym (b .flat .ensures) ∙ i .if2 .taken)) _ _ (c .before .rectangle .ensures)
 
-mul-join-all : tie.Need-mul-join-all
-mul-join-all c =
-    let d = begin c .before .before .before .before .before .before .before .before .before in
-    record { fits = omega (arith, L-most _ _ (d .degree .ensures) (d .before .pre .1 .small)) }
+triangle-requires : tie.Need-triangle-requires
+triangle-requires c κs =
+    let i = c .before .before in
+    let b = i .before in
+    let f = b .before in
+    let d = f .before .before .before .before in
+    let s = d .before in
+    let x = s .pre .1 in
+    let o = or-none _ _ (sym (b .flat .ensures) ∙ i .if2 .left) in
+    let some : 0 < d .degree .result = let o = f .before .before .before .if1 .left in omega arith in (
+      some,
+      triangle-asks (rq s) x _ (f .fill .ensures) _ (d .degree .ensures) _ (s .pre .2) some (other-form _ 1 (o .0)) (other-form _ 2 (o .1)),
+      even (rq s) x _ (f .fill .ensures) _ (d .degree .ensures) (other-form _ 1 (o .0)) (other-form _ 2 (o .1)),
+      x .travels,
+    )
 
-add-join-all : tie.Need-add-join-all
-add-join-all c =
-    let d = begin c .before .before .before .before .before .before .before .before .before in
-    record { fits = omega (arith, L-most _ _ (d .degree .ensures) (d .before .pre .1 .small)) }
+same-length-3 : tie.Need-same-length-3
+same-length-3 c = search needs
 
-join-all-requires : tie.Need-join-all-requires
-join-all-requires c κs =
-    let b = begin c in
-    joinable (rq (start b)) (start b .pre .1) _ (b .before .before .before .before .before .fill .ensures) _ _ (b .before .before .before .before .before .before .before .before .before .degree .ensures) (b .before .before .before .before .load .ensures) _
-    (rw (b .before .before .before .of-group .ensures) at (c .before .before .total .ensures .1))
-
-returns : tie.Need-returns
-returns c =
-    let b = begin (c .before) in
-    numbers (rq (start b)) (start b .pre .1) _ (b .before .before .before .before .before .fill .ensures) _ _ (b .before .before .before .before .before .before .before .before .before .degree .ensures) (b .before .before .before .before .load .ensures) _
-    (rw (b .before .before .before .of-group .ensures) at (c .before .before .before .total .ensures .1)) _ (c .join-all .ensures)
+returns-3 : tie.Need-returns-3
+returns-3 c =
+    let i = c .before .before .before .before in
+    let b = i .before in
+    let f = b .before in
+    let d = f .before .before .before .before in
+    let s = d .before in
+    let o = or-none _ _ (sym (b .flat .ensures) ∙ i .if2 .left) in
+    let some : 0 < d .degree .result = let o = f .before .before .before .if1 .left in omega arith in
+    triangle-leaves (rq s) (s .pre .1) _ (f .fill .ensures) _ (d .degree .ensures) _ (s .pre .2) some (other-form _ 1 (o .0)) (other-form _ 2 (o .1)) _ _ (c .before .triangle .ensures)
 
 pub numerators-spec : {M : Type 1} → statement M
 numerators-spec =
     tie.close
     (tie.spec
     degree-requires
-    cast-n
-    cast-second
+    travel-requires
+    settle-requires
+    same-length
+    returns
+    cast-count
+    add-count
     fill-requires
-    load-requires
-    of-group-requires
-    add-total
-    slice-aggregate-total
-    total-requires
-    slice-aggregate-join-all
-    mul-join-all
-    add-join-all
-    join-all-requires
-    returns)
+    flat-requires
+    cast-rectangle
+    rectangle-requires
+    same-length-2
+    returns-2
+    triangle-requires
+    same-length-3
+    returns-3)

@@ -1,7 +1,7 @@
--- `sums::store_term` meets its contract: eight stores, one after the other. Assumes nothing.
+-- `sums::store_term` meets its contract: four stores, one after the other. Assumes nothing.
 use Prim.Native.Nat.{_*_}
-use Rattle.sums.proofs.Filling.{eight-stores}
 use borrow.Author.Needs.{needs}
+use Rattle.sums.proofs.Filling.{four-stores}
 use Rattle.sums.proofs.store_term.Statement.{statement}
 use Rattle.sums.proofs.store_term.Tie as tie
 
@@ -17,23 +17,23 @@ add-store c = search needs
 store-requires-2 : tie.Need-store-requires-2
 store-requires-2 c κs = search needs
 
-add-store-shares : tie.Need-add-store-shares
-add-store-shares c = search needs
+add-store-2 : tie.Need-add-store-2
+add-store-2 c = search needs
 
-store-shares-requires : tie.Need-store-shares-requires
-store-shares-requires c κs = search needs
+store-requires-3 : tie.Need-store-requires-3
+store-requires-3 c κs = search needs
 
-add-store-shares-2 : tie.Need-add-store-shares-2
-add-store-shares-2 c = search needs
+add-store-3 : tie.Need-add-store-3
+add-store-3 c = search needs
 
-store-shares-requires-2 : tie.Need-store-shares-requires-2
-store-shares-requires-2 c κs = search needs
+store-requires-4 : tie.Need-store-requires-4
+store-requires-4 c κs = search needs
 
 returns : tie.Need-returns
 returns c =
     let a = c .before .before .before .before .before .before .before .before .args in
-    rw (c .store-shares2 .ensures, c .before .before .store-shares .ensures, c .before .before .before .before .store2 .ensures, c .before .before .before .before .before .before .store .ensures)
-    (eight-stores (a .t .now) (8 * a .c) (a .c) (a .weight) (a .first .x) (a .first .y) (a .first .z) (a .second .x) (a .second .y) (a .second .z))
+    rw (c .store4 .ensures, c .before .before .store3 .ensures, c .before .before .before .before .store2 .ensures, c .before .before .before .before .before .before .store .ensures)
+    (four-stores (a .t .now) (4 * a .c) (a .c) (a .weight) (a .a) (a .b))
 
 pub store-term-spec : {M : Type 1} → statement M
 store-term-spec =
@@ -43,8 +43,8 @@ store-term-spec =
     store-requires
     add-store
     store-requires-2
-    add-store-shares
-    store-shares-requires
-    add-store-shares-2
-    store-shares-requires-2
+    add-store-2
+    store-requires-3
+    add-store-3
+    store-requires-4
     returns)

@@ -1,6 +1,6 @@
 -- `tally::new` meets its contract. Assumes nothing.
 use mathlib.Core.Path.{refl}
-use Rattle.trace.specs.Feed.{blank, heldOf}
+use Rattle.feed.specs.Feed.{blank, heldOf}
 use Rattle.tally.specs.Read.{blankReader, readerOf}
 use Rattle.tally.proofs.new.Statement.{statement}
 use Rattle.tally.proofs.new.Tie as tie

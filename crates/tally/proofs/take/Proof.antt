@@ -1,19 +1,22 @@
 -- `tally::take` meets its contract: the invariant is that the bytes of the part before i were fed. Assumes nothing.
+use mathlib.Core.Path.{sym}
 use borrow.Author.Needs.{needs}
 use native.Mathlib.Omega.{arith}
 use Prim.Native.Nat.{_-_}
 use lib.ListN.{length, length-take, length-drop}
 use Rattle.door.specs.Contract.{replyOf}
-use Rattle.trace.specs.Cut.{longestRecord}
-use Rattle.trace.proofs.Reading.{Passed, none-passed, more-passed, all-passed}
-use Rattle.tally.specs.Read.{counts, afterPart}
+use Rattle.feed.specs.Feed.{feedIn}
+use Rattle.feed.proofs.Parts.{Passed, none-passed, all-passed}
+use Rattle.feed.proofs.Reading.{turn-passed, handed-long}
+use Rattle.fives.specs.Count.{counts}
+use Rattle.tally.specs.Read.{step, afterPart}
 use Rattle.tally.proofs.Reading.{reader-is}
 use Rattle.tally.proofs.take.Statement.{statement}
 use Rattle.tally.proofs.take.Tie as tie
 
 abbrev Inv-loop : tie.InvT-loop
 Inv-loop part held₀ rest₀ tally₀ i₀ held rest tally i =
-    Passed longestRecord (counts replyOf) held₀ rest₀ tally₀ part held rest tally i
+    Passed step (feedIn held₀ rest₀ tally₀) part (feedIn held rest tally) i
 
 abbrev μ-loop : tie.MeasureT-loop
 μ-loop part held₀ rest₀ tally₀ i₀ held rest tally i = length part - i
@@ -21,35 +24,45 @@ abbrev μ-loop : tie.MeasureT-loop
 loop-holds : tie.Need-loop-holds Inv-loop μ-loop
 loop-holds c = none-passed _
 
-sub-advance : tie.Need-sub-advance Inv-loop μ-loop
-sub-advance c = search needs
+sub-next : tie.Need-sub-next Inv-loop μ-loop
+sub-next c = search needs
 
-part-advance-start : tie.Need-part-advance-start Inv-loop μ-loop
-part-advance-start c = search needs
+part-next-start : tie.Need-part-next-start Inv-loop μ-loop
+part-next-start c = search needs
 
-part-advance-end : tie.Need-part-advance-end Inv-loop μ-loop
-part-advance-end c = search needs
+part-next-end : tie.Need-part-next-end Inv-loop μ-loop
+part-next-end c = search needs
 
-advance-requires : tie.Need-advance-requires Inv-loop μ-loop
-advance-requires c κs = simp (length-take, length-drop) (omega arith)
+next-requires : tie.Need-next-requires Inv-loop μ-loop
+next-requires c κs = search needs
+
+slice-aggregate-gather : tie.Need-slice-aggregate-gather Inv-loop μ-loop
+slice-aggregate-gather c = sym (handed-long _ (simp (length-take, length-drop) (omega arith)) (c .before .next .ensures) .0)
+
+gather-requires : tie.Need-gather-requires Inv-loop μ-loop
+gather-requires c κs = handed-long _ (simp (length-take, length-drop) (omega arith)) (c .before .next .ensures) .1
 
 add-i : tie.Need-add-i Inv-loop μ-loop
-add-i c = omega (
-  arith,
-  more-passed (c .before .before .before .before .before .before .loop .inv)
-      (c .before .before .advance .ensures) .within,
-)
+add-i c =
+    let turn = c .before .before .before in
+    let at-loop = turn .before .before .before .before in
+    let loop = at-loop .loop in
+    let went = turn-passed (omega arith) (counts replyOf) _ _ (loop .tally) (loop .inv) (omega arith) (turn .next .ensures) in
+    omega (arith, went .1 .within)
 
 loop-less : tie.Need-loop-less Inv-loop μ-loop
-loop-less c = omega (
-  arith,
-  more-passed (c .before .before .before .before .before .before .loop .inv)
-      (c .before .before .advance .ensures) .within,
-  c .before .before .advance .ensures .some,
-)
+loop-less c =
+    let turn = c .before .before .before in
+    let loop = turn .before .before .before .before .loop in
+    let went = turn-passed (omega arith) (counts replyOf) _ _ (loop .tally) (loop .inv) (omega arith) (turn .next .ensures) in
+    omega (arith, went .0, went .1 .within)
 
 loop-again : tie.Need-loop-again Inv-loop μ-loop
-loop-again c = more-passed (c .before .before .before .before .before .before .loop .inv) (c .before .before .advance .ensures)
+loop-again c =
+    let turn = c .before .before .before in
+    let loop = turn .before .before .before .before .loop in
+    rw (c .before .gather .ensures)
+    (turn-passed (omega arith) (counts replyOf) _ _ (loop .tally) (loop .inv) (omega arith) (turn .next .ensures) .1)
 
 settle-requires : tie.Need-settle-requires Inv-loop μ-loop
 settle-requires c κs = search needs
@@ -65,10 +78,12 @@ take-spec =
     Inv-loop
     μ-loop
     loop-holds
-    sub-advance
-    part-advance-start
-    part-advance-end
-    advance-requires
+    sub-next
+    part-next-start
+    part-next-end
+    next-requires
+    slice-aggregate-gather
+    gather-requires
     add-i
     loop-less
     loop-again

@@ -1,39 +1,70 @@
--- `text::read_line` meets its contract: too long, or a request. Assumes nothing.
-use mathlib.Core.Path.{refl}
-use native.Mathlib.Omega.{arith}
+-- `text::read_line` meets its contract: the readers one after the other. Assumes nothing.
 use borrow.Author.Needs.{needs}
-use borrow.Author.Tests.{lt-ltb, le-ltb}
-use Rattle.text.specs.Line.{said, tooLongSaid}
+use Rattle.text.proofs.Readers.{said-is, said-short}
 use Rattle.text.proofs.read_line.Statement.{statement}
 use Rattle.text.proofs.read_line.Tie as tie
 
+begin-requires : tie.Need-begin-requires
+begin-requires c κs = search needs
+
+read-head-requires : tie.Need-read-head-requires
+read-head-requires c κs = search needs
+
+read-list-requires : tie.Need-read-list-requires
+read-list-requires c κs = search needs
+
+read-list-requires-2 : tie.Need-read-list-requires-2
+read-list-requires-2 c κs = search needs
+
+read-rooms-requires : tie.Need-read-rooms-requires
+read-rooms-requires c κs = search needs
+
+read-age-requires : tie.Need-read-age-requires
+read-age-requires c κs = search needs
+
+read-end-requires : tie.Need-read-end-requires
+read-end-requires c κs = search needs
+
 returns : tie.Need-returns
-unfolding said tooLongSaid
 returns c =
-    rw (lt-ltb _ _ (c .if1 .taken))
-    (record {
-      cursor = refl;
-      head = refl;
-      surface-count = refl;
-      path-count = refl;
-      rooms = refl;
-      age = refl;
-      surface-is = refl;
-      path-is = refl;
-      few-values = omega arith;
-      few-numbers = omega arith;
-      few-exact = omega arith;
-      few-points = omega arith;
-      inside = record { order = omega arith; end = omega arith };
-      short = omega arith;
-    })
-
-read-request-requires : tie.Need-read-request-requires
-read-request-requires c κs = search needs
-
-returns-2 : tie.Need-returns-2
-unfolding said
-returns-2 c = rw (le-ltb _ _ (c .before .before .before .if1 .left)) (c .read-request .ensures)
+    let ended = c .before .before in
+    let aged = ended .before in
+    let lent = aged .before in
+    let path = lent .before in
+    let surface = path .before .before in
+    let headed = surface .before .before in
+    let values = surface .read-list .ensures in
+    let numbers = path .read-list2 .ensures in
+    let rooms = lent .read-rooms .ensures in
+    let end = ended .read-end .ensures in
+    let said = said-is _ _ _ _ _ _ _ _ (headed .before .begin .ensures .is) (headed .read-head .ensures .is) (values .is)
+    (numbers .is) (rooms .is) (aged .read-age .ensures .is) (end .is) in
+    record {
+      cursor = rw said;
+      head = rw said;
+      surface-count = rw said (values .counted);
+      path-count = rw said (numbers .counted);
+      rooms = rw said;
+      age = rw said;
+      surface-is = rw said (values .holds);
+      path-is = rw said (numbers .holds);
+      few-values = values .small;
+      few-numbers = numbers .small;
+      few-exact = rooms .small-exact;
+      few-points = rooms .small-points;
+      inside = end .inside;
+      short = said-short _ _ (rw said) (end .inside);
+    }
 
 pub read-line-spec : {M : Type 1} → statement M
-read-line-spec = tie.close (tie.spec returns read-request-requires returns-2)
+read-line-spec =
+    tie.close
+    (tie.spec
+    begin-requires
+    read-head-requires
+    read-list-requires
+    read-list-requires-2
+    read-rooms-requires
+    read-age-requires
+    read-end-requires
+    returns)

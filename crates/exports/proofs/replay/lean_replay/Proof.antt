@@ -37,7 +37,8 @@ returns-2 c =
     let second = third .before .before .before .before in
     let first = second .before .before .before .before in
     let called = first .before .before in
-    wrote _ _ _ _ _ _ _ _ (omega arith) (called .replay .ensures) (first .put .ensures) (second .put2 .ensures) (third .put3 .ensures) (fourth .put4 .ensures) (fifth .put5 .ensures)
+    wrote _ _ _ _ _ _ _ _ (omega arith) (called .replay .ensures) (first .put .ensures) (second .put2 .ensures)
+    (third .put3 .ensures) (fourth .put4 .ensures) (fifth .put5 .ensures)
 
 pub lean-replay-spec : {M : Type 1} → statement M
 lean-replay-spec =

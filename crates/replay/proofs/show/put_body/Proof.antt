@@ -2,7 +2,7 @@
 use Prim.Native.Nat.{_+_, _*_, _<_}
 use native.Mathlib.Omega.{arith}
 use borrow.Author.Needs.{needs}
-use Rattle.door.proofs.Sizes.{surface-most, path-most}
+use Rattle.judgement.proofs.Sizes.{surface-most, path-most}
 use Rattle.replay.proofs.show.put_body.Statement.{statement}
 use Rattle.replay.proofs.show.put_body.Tie as tie
 

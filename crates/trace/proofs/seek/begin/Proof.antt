@@ -1,6 +1,6 @@
 -- `trace::seek::begin` meets its contract. Assumes nothing.
 use mathlib.Core.Path.{refl}
-use Rattle.trace.specs.Feed.{blank, heldOf}
+use Rattle.feed.specs.Feed.{blank, heldOf}
 use Rattle.trace.specs.Seek.{seekerOf, seekerOfPair}
 use Rattle.trace.proofs.seek.begin.Statement.{statement}
 use Rattle.trace.proofs.seek.begin.Tie as tie

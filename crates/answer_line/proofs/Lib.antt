@@ -1,0 +1,3 @@
+-- Laws of answer lines. Assumes nothing.
+pub mod Listing
+pub mod Examples

@@ -1,0 +1,38 @@
+-- `answer_line::write_verdict` meets its contract: the three numbers one after the other. Assumes nothing.
+use borrow.Author.Needs.{needs}
+use Rattle.answer_line.specs.Answer.{verdict}
+use Rattle.spell.proofs.Writing.{written-then}
+use Rattle.answer_line.proofs.write_verdict.Statement.{statement}
+use Rattle.answer_line.proofs.write_verdict.Tie as tie
+
+write-natural-requires : tie.Need-write-natural-requires
+write-natural-requires c κs = search needs
+
+write-next-natural-requires : tie.Need-write-next-natural-requires
+write-next-natural-requires c κs = search needs
+
+write-next-natural-requires-2 : tie.Need-write-next-natural-requires-2
+write-next-natural-requires-2 c κs = search needs
+
+same-length : tie.Need-same-length
+same-length c = search needs
+
+returns : tie.Need-returns
+unfolding verdict
+returns c =
+    let count = c .before .before in
+    let place = count .before .before .before .before in
+    let number = place .before .before .before .before in
+    written-then 41 _ _ _ _ _ 21 _ _ _
+    (written-then 20 _ _ _ _ _ 21 _ _ _ (number .write-natural .ensures) (place .write-next-natural .ensures))
+    (count .write-next-natural2 .ensures)
+
+pub write-verdict-spec : {M : Type 1} → statement M
+write-verdict-spec =
+    tie.close
+    (tie.spec
+    write-natural-requires
+    write-next-natural-requires
+    write-next-natural-requires-2
+    same-length
+    returns)

@@ -1,0 +1,2 @@
+-- Laws of the answering of an input. Assumes nothing.
+pub mod Telling

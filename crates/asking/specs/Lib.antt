@@ -1,0 +1,3 @@
+-- What the answering of an input promises. Assumes nothing.
+pub mod Told
+pub mod Asked

@@ -1,0 +1,2 @@
+-- Laws of reading and writing a stream. Assumes nothing.
+pub mod Streams

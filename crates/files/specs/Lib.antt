@@ -1,0 +1,2 @@
+-- What went through a stream. Assumes nothing.
+pub mod Stream

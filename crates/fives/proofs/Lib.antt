@@ -1,0 +1,4 @@
+-- Laws of the five numbers and of their lines. Assumes nothing.
+pub mod Numbers
+pub mod Telling
+pub mod Promises

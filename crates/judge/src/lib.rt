@@ -1,0 +1,112 @@
+// Document 01's nine refusals, ticket 3's with them, tested in the stated order: `judge` answers a number, a place and a count
+// for every request and writes nothing.
+mod places;
+
+ghost use mathlib.Core.Path.{_≡_};
+ghost use mathlib.Core.Bool.{false};
+ghost use Prim.Native.Nat.{_+_};
+ghost use Rattle.request.specs.Head.{longest};
+ghost use Rattle.request.specs.Request.{requestOf};
+ghost use Rattle.request.specs.Refusal.{notKind, notDegree, notRoom, accepted, answer};
+ghost use Rattle.judge.specs.Places.{numbersJudged};
+use places::balance_place;
+use places::beyond_place;
+use request::Answer;
+use request::Head;
+use request::refusal;
+use units::Age;
+
+// L + 1: how many places of each output array are written.
+fn place_count(head: Head) -> usize
+    requires { ⌜ notDegree head ≡ false ⌝ }
+    ensures { λ r. ⌜ r ≡ longest head + 1 ⌝ }
+{
+    let r = request::degree(head) as usize;
+    r * (head.N as usize) + 1
+}
+
+// 5 ROOM
+fn not_room(head: Head, exact_room: usize, points_room: usize) -> bool
+    requires { ⌜ notDegree head ≡ false ⌝ }
+    ensures { λ r. ⌜ r ≡ notRoom head «exact_room» «points_room» ⌝ }
+{
+    let count = place_count(head);
+    if exact_room < count {
+        return true;
+    }
+    if points_room < count {
+        return true;
+    }
+    false
+}
+
+fn acceptance(head: Head) -> Answer
+    requires { ⌜ notDegree head ≡ false ⌝ }
+    ensures { λ r. ⌜ r ≡ accepted head ⌝ }
+{
+    Answer {
+        number: 0,
+        place: 0,
+        count: place_count(head),
+    }
+}
+
+// The table from VALUE on: the numbers themselves, or the acceptance.
+fn judge_numbers(head: Head, surface: &[i32], path: &[i32]) -> Answer
+    requires { ⌜ (notKind head ≡ false) × (notDegree head ≡ false) ⌝ }
+    ensures { λ r. ⌜ r ≡ numbersJudged (requestOf head (now (surface .entry)) (now (path .entry))) ⌝ }
+{
+    let value = beyond_place(false, surface);
+    if value < surface.len() {
+        return refusal(6, value);
+    }
+    let parameter = beyond_place(true, path);
+    if parameter < path.len() {
+        return refusal(7, parameter);
+    }
+    if head.form != 3 {
+        return acceptance(head);
+    }
+    let n = head.N as usize;
+    let balance = balance_place(path, n);
+    if balance < n + 1 {
+        return refusal(8, balance);
+    }
+    acceptance(head)
+}
+
+// The nine refusals in their order, each exactly on its condition, or the acceptance: document 01's answer to a request
+// whose output arrays have the two rooms.
+pub fn judge(
+    head: Head,
+    age: Age,
+    surface: &[i32],
+    path: &[i32],
+    exact_room: usize,
+    points_room: usize,
+) -> Answer
+    ensures { λ r. ⌜ r ≡ answer (requestOf head (now (surface .entry)) (now (path .entry))) (age .0) «exact_room» «points_room» ⌝ }
+{
+    if request::not_kind(head) {
+        return refusal(1, 0);
+    }
+    if request::not_degree(head) {
+        return refusal(2, 0);
+    }
+    let old = units::is_stale(age);
+    let values = request::surface_count(head);
+    let numbers = request::path_count(head);
+    if old {
+        return refusal(10, 0);
+    }
+    if surface.len() != values {
+        return refusal(3, 0);
+    }
+    if path.len() != numbers {
+        return refusal(4, 0);
+    }
+    if not_room(head, exact_room, points_room) {
+        return refusal(5, 0);
+    }
+    judge_numbers(head, surface, path)
+}

@@ -1,0 +1,49 @@
+-- The order in which the door judges a request: its own refusal 9 FRAME around KIND, DEGREE and STALE, and then the
+-- composer. Assumes nothing.
+use mathlib.Core.Bool.{Bool, not, cond, _||_}
+use mathlib.Core.List.{List, [], _∷_}
+use Prim.Native.Nat.{ℕ}
+use lib.Dec.{ltb, eqb}
+use lib.ListN.{length}
+use Rattle.units.specs.Bounds.{stale}
+use Rattle.request.specs.declared.Answer.{Answer}
+use Rattle.request.specs.Head.{mostPoints}
+use Rattle.request.specs.Cascade.{Test, test, first, refused, decided}
+use Rattle.request.specs.Refusal.{notKind, notDegree, answer}
+use Rattle.wire.specs.Start.{lengthField, kindField, start}
+use Rattle.judgement.specs.Record.{requestKind, agedStart, headIn, isAged, startIn, ageIn, bodyEnd, requestIn}
+
+-- "another kind"; and "kind 0x0002 [..] under 10 bytes is FRAME"
+unfoldable pub notOfKind : List ℕ → Bool
+notOfKind bytes = cond (isAged bytes) (ltb (length bytes) agedStart) (not (eqb (kindField bytes) requestKind))
+
+-- 9 FRAME: "fewer than 8 bytes, a length that isn't the slice's, or another kind"
+unfoldable pub notFrame : List ℕ → Bool
+notFrame bytes = ltb (length bytes) start || not (eqb (lengthField bytes) (length bytes)) || notOfKind bytes
+
+-- 9 FRAME again: "a body not exactly as long as the degrees say [..] stands for SURFACE and PATH"
+unfoldable pub notBody : List ℕ → Bool
+notBody bytes = not (eqb (length bytes) (bodyEnd (startIn bytes) (headIn bytes)))
+
+-- the door's own table, each at "place 0": FRAME "comes first; KIND and DEGREE follow; a body not exactly as long [..] is
+-- FRAME again"; STALE "stands right after DEGREE"
+unfoldable pub doorRefusals : List ℕ → List Test
+doorRefusals bytes =
+    test 9 (notFrame bytes) 0
+    ∷ test 1 (notKind (headIn bytes)) 0
+    ∷ test 2 (notDegree (headIn bytes)) 0
+    ∷ test 10 (stale (ageIn bytes)) 0
+    ∷ test 9 (notBody bytes) 0
+    ∷ []
+
+-- by that table alone: number 0 where none of its tests holds
+unfoldable pub tested : List ℕ → Answer
+tested bytes = decided (first (doorRefusals bytes)) (refused 0 0)
+
+-- the composer's answer to the request in a record, with room for the longest ride
+abbrev pub composed : List ℕ → Answer
+composed bytes = answer (requestIn bytes) (ageIn bytes) mostPoints mostPoints
+
+-- what is answered to a record: by the door's table, and then by the composer
+unfoldable pub judged : List ℕ → Answer
+judged bytes = decided (first (doorRefusals bytes)) (composed bytes)

@@ -1,0 +1,2 @@
+-- Laws of the numbers of a line. Assumes nothing.
+pub mod Values

@@ -1,0 +1,2 @@
+-- A recorded trace, cut into pairs of a request and its reply. Assumes nothing.
+pub mod Cut

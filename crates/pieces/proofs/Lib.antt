@@ -1,0 +1,3 @@
+-- Laws of lines out of parts. Assumes nothing.
+pub mod Keeping
+pub mod Determined

@@ -1,0 +1,2 @@
+-- Laws of the answer line. Assumes nothing.
+pub mod Replied

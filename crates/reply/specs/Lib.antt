@@ -1,0 +1,2 @@
+-- The answer line of a request, as bytes by definition. Assumes nothing.
+pub mod Reply

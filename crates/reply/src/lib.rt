@@ -1,0 +1,78 @@
+// The answer line of a request: the composer's answer, and both arrays in the places that are shown.
+ghost use mathlib.Core.Path.{_≡_};
+ghost use Prim.Native.Nat.{_≤_};
+ghost use lib.ListN.{length};
+ghost use Rattle.request.specs.Request.{requestOf};
+ghost use Rattle.reply.specs.Reply.{shown, replyOf, Fits, lineIn};
+ghost use Rattle.spell.specs.Decimal.{Written};
+use answer_line::write_answer;
+use request::Head;
+use text::Reading;
+use units::Age;
+
+// How many places of an array are shown: all where the line gives rooms, else those that the answer counts.
+fn shown(given: bool, count: usize, room: usize) -> usize
+    ensures { λ r. ⌜ (r ≡ shown given count room) × (r ≤ room) ⌝ }
+{
+    if given {
+        return room;
+    }
+    if count < room {
+        return count;
+    }
+    room
+}
+
+// The answer line of a request, with arrays of its rooms lent.
+fn reply_in(
+    head: Head,
+    age: Age,
+    given: bool,
+    surface: &[i32],
+    path: &[i32],
+    exact: &mut [i64],
+    points: &mut [i32],
+    out: &mut [u8],
+) -> usize
+    requires { ⌜ (length (now exact) ≤ 64) × (length (now points) ≤ 64) × (4096 ≤ length (now out)) ⌝ }
+    ensures { λ r. ⌜ Written 4096 (now (out .entry)) 0 (replyOf (requestOf head (now (surface .entry)) (now (path .entry))) (age .0) given
+        (now (exact .entry)) (now (points .entry))) (now (out .exit)) r ⌝ }
+{
+    let answer = compose::compose(head, age, surface, path, exact, points);
+    let c = shown(given, answer.count, exact.len());
+    let d = shown(given, answer.count, points.len());
+    write_answer(
+        answer.number,
+        answer.place,
+        answer.count,
+        &exact[..c],
+        &points[..d],
+        out,
+        0,
+    )
+}
+
+// The same of what was read, with arrays that are filled beforehand.
+pub fn reply(reading: Reading, surface: &[i32], path: &[i32], out: &mut [u8]) -> usize
+    requires { ⌜ Fits reading (now surface) (now path) (now out) ⌝ }
+    ensures { λ r. ⌜ Written 4096 (now (out .entry)) 0 (lineIn reading (now (surface .entry)) (now (path .entry))) (now (out .exit)) r ⌝ }
+{
+    let mut exact = [-7i64; 64];
+    let mut points = [-9i32; 64];
+    let head = reading.head;
+    let rooms = reading.rooms;
+    let values = reading.surface;
+    let numbers = reading.path;
+    let a = rooms.exact;
+    let b = rooms.points;
+    reply_in(
+        head,
+        Age(reading.age),
+        rooms.given,
+        &surface[..values],
+        &path[..numbers],
+        &mut exact[..a],
+        &mut points[..b],
+        out,
+    )
+}

@@ -1,0 +1,3 @@
+-- Laws of words, for the proofs here and above. Assumes nothing.
+pub mod Runs
+pub mod Cases
