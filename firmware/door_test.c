@@ -55,6 +55,14 @@ int main(void)
     /* P2: 2, 3, -2 */
     static const uint8_t below[] = {18, 0, 1, 0, 1, 2, 0, 1, 2, 0, 3, 0, 0xfe, 0xff, 0, 0, 0, 4};
     static const uint8_t below_points[] = {14, 0, 1, 0x80, 0, 0, 3, 0, 2, 0, 3, 0, 0xfe, 0xff};
+    /* the longest ride: 4096 all along, r = 4, N = 6; and one path point more */
+    static const uint8_t longest[] = {32, 0, 1, 0, 1, 4, 0, 6, 0, 16, 0, 16, 0, 16, 0, 16, 0, 16,
+                                      0, 0, 1, 0, 5, 0, 0xe8, 3, 7, 0, 44, 1, 0, 4};
+    static const uint8_t longest_points[LEAN_REPLY_ROOM] = {
+        58, 0, 1, 0x80, 0, 0, 25, 0,  0, 16, 0, 16, 0, 16, 0, 16, 0, 16, 0, 16, 0, 16, 0, 16, 0, 16, 0, 16, 0,
+        16, 0, 16, 0, 16, 0, 16, 0,   16, 0, 16, 0, 16, 0, 16, 0, 16, 0, 16, 0, 16, 0, 16, 0, 16, 0, 16, 0, 16};
+    static const uint8_t too_long[] = {34, 0, 1, 0, 1, 4, 0, 7, 0, 16, 0, 16, 0, 16, 0, 16, 0, 16,
+                                       0, 0, 1, 0, 5, 0, 0xe8, 3, 7, 0, 44, 1, 0, 4, 0, 0};
     static const uint8_t none[] = {0};
     static const uint8_t length[] = {15, 0, 1, 0, 1, 1, 0, 1, 0, 0, 100, 0, 0, 0, 0, 4};
     static const uint8_t other[] = {16, 0, 1, 1, 1, 1, 0, 1, 0, 0, 100, 0, 0, 0, 0, 4};
@@ -109,10 +117,12 @@ int main(void)
     int bad = 0;
 
     bad += check("a good ride", ride, sizeof ride, ROOM, points, sizeof points);
-    bad += check("a good ride in 34 bytes", ride, sizeof ride, LEAN_REPLY_ROOM, points, sizeof points);
-    bad += check("33 bytes are too few", ride, sizeof ride, LEAN_REPLY_ROOM - 1, points, 0);
+    bad += check("a good ride in 58 bytes", ride, sizeof ride, LEAN_REPLY_ROOM, points, sizeof points);
+    bad += check("57 bytes are too few", ride, sizeof ride, LEAN_REPLY_ROOM - 1, points, 0);
     bad += check("no room", ride, sizeof ride, 0, points, 0);
     bad += check("points below 0", below, sizeof below, ROOM, below_points, sizeof below_points);
+    bad += check("the longest ride in 58 bytes", longest, sizeof longest, LEAN_REPLY_ROOM, longest_points, sizeof longest_points);
+    bad += refused("N = 7", too_long, sizeof too_long, LEAN_DEGREE, 0);
     bad += refused("no bytes", none, 0, LEAN_FRAME, 0);
     bad += refused("seven bytes", ride, 7, LEAN_FRAME, 0);
     bad += refused("another length", length, sizeof length, LEAN_FRAME, 0);
@@ -135,7 +145,7 @@ int main(void)
             bad += check(ages[k].name, record, sizeof record, LEAN_REPLY_ROOM, points, sizeof points);
         }
     }
-    bad += check("33 bytes are too few for a stale ride", stale_value, sizeof stale_value, LEAN_REPLY_ROOM - 1, points, 0);
+    bad += check("57 bytes are too few for a stale ride", stale_value, sizeof stale_value, LEAN_REPLY_ROOM - 1, points, 0);
     bad += refused("another length, stale", aged_length, sizeof aged_length, LEAN_FRAME, 0);
     bad += refused("kind 0x0102, stale", other_aged, sizeof other_aged, LEAN_FRAME, 0);
     bad += refused("the kind of a reply", reply_kind, sizeof reply_kind, LEAN_FRAME, 0);

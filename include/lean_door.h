@@ -44,8 +44,8 @@ enum {
     LEAN_HEAD = 8,           /* bytes before the body of a request without an age, and before a reply's points */
     LEAN_AGED_HEAD = 10,     /* bytes before the body of a request with an age */
     LEAN_MOST_AGE = 250,     /* the greatest age, in milliseconds, that is accepted */
-    LEAN_REPLY_ROOM = 34,    /* a reply needs this much room, whatever it says */
-    LEAN_MOST_POINTS = 13
+    LEAN_REPLY_ROOM = 58,    /* a reply needs this much room, whatever it says */
+    LEAN_MOST_POINTS = 25
 };
 
 /* The number in byte 4 of a reply, in the order of judgement. */
@@ -54,7 +54,7 @@ enum {
     LEAN_FRAME = 9,     /* fewer than 8 bytes, or than 10 with an age; a length that is not the record's; another kind; or,
                            after STALE, a body that is not exactly as long as the degrees say */
     LEAN_KIND = 1,      /* form is not 1, 2 or 3 */
-    LEAN_DEGREE = 2,    /* r above 4, N above 3, or a second degree in forms 1 and 3 */
+    LEAN_DEGREE = 2,    /* r above 4, N above 6, or a second degree in forms 1 and 3 */
     LEAN_STALE = 10,    /* the tilt sample is older than 250 ms */
     LEAN_VALUE = 6,     /* a control value beyond its bounds */
     LEAN_PARAMETER = 7, /* a path number beyond its bounds */

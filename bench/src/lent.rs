@@ -1,5 +1,5 @@
-//! The arrays that are lent for an answer. They also say which rides are asked: `Short` those with N up to 3, whose numerators fit
-//! one signed 64-bit number; `Long` those with N up to 6, two words to a numerator.
+//! The arrays that are lent for an answer, two words to a numerator. They also say which rides are asked: `Short` those with N up
+//! to 3, whose numerators are summed in 64 bits by the plain and the best program; `Long` those with N up to 6, in 128.
 
 use std::fmt::Debug;
 use std::ops::{Add, AddAssign, Div, Mul};
@@ -63,7 +63,8 @@ pub trait Lent: PartialEq + Debug {
 
 #[derive(Debug, PartialEq)]
 pub struct Short {
-    pub exact: Vec<i64>,
+    pub high: Vec<i64>,
+    pub low: Vec<u64>,
     pub points: Vec<i32>,
 }
 
@@ -73,24 +74,26 @@ impl Lent for Short {
 
     fn marked() -> Self {
         Short {
-            exact: vec![i64::MIN; 13],
+            high: vec![i64::MIN; 13],
+            low: vec![u64::MAX / 3; 13],
             points: vec![i32::MIN; 13],
         }
     }
 
     #[inline(always)]
     fn room(&self) -> usize {
-        self.exact.len().min(self.points.len())
+        self.high.len().min(self.low.len()).min(self.points.len())
     }
 
     #[inline(always)]
     fn write(&mut self, place: usize, numerator: i64, point: i32) {
-        self.exact[place] = numerator;
+        self.high[place] = numerator >> 63;
+        self.low[place] = numerator as u64;
         self.points[place] = point;
     }
 
     fn numerator(&self, place: usize) -> i128 {
-        i128::from(self.exact[place])
+        (i128::from(self.high[place]) << 64) + i128::from(self.low[place])
     }
 }
 

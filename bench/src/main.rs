@@ -36,8 +36,7 @@ const ALIKE: usize = 600;
 
 type Program<L> = (&'static str, fn(&Ride, &mut L) -> Answer);
 
-/// The programs for one kind of rides. The composer, where it answers such rides, is the first; the plain and the best program
-/// are the last two.
+/// The programs for one kind of rides: the composer, and the plain and the best program.
 trait Rides: Lent + Sized + 'static {
     const PROGRAMS: &'static [Program<Self>];
     /// How many times the plain program's rides the composer is to answer.
@@ -60,9 +59,9 @@ impl Rides for Short {
     const TIMES_PLAIN: f64 = 5.0;
 }
 
-// ticket 6: the composer comes before these
 impl Rides for Long {
     const PROGRAMS: &'static [Program<Long>] = &[
+        ("composer", composer_long),
         ("plain", plain::compose::<Long, 25>),
         ("best", best::compose::<Long, 25>),
     ];
@@ -70,6 +69,15 @@ impl Rides for Long {
 }
 
 fn composer(ride: &Ride, lent: &mut Short) -> Answer {
+    composed(ride, &mut lent.high, &mut lent.low, &mut lent.points)
+}
+
+fn composer_long(ride: &Ride, lent: &mut Long) -> Answer {
+    composed(ride, &mut lent.high, &mut lent.low, &mut lent.points)
+}
+
+#[inline(always)]
+fn composed(ride: &Ride, high: &mut [i64], low: &mut [u64], points: &mut [i32]) -> Answer {
     native::compose(
         ride.form,
         ride.first,
@@ -78,8 +86,9 @@ fn composer(ride: &Ride, lent: &mut Short) -> Answer {
         ride.age,
         &ride.surface,
         &ride.path,
-        &mut lent.exact,
-        &mut lent.points,
+        high,
+        low,
+        points,
     )
 }
 
@@ -254,11 +263,8 @@ fn report<L: Rides>(rng: &mut Xorshift, word: &str) {
         );
     };
     show("best's rides a second, in plain's", &ratio(last - 1, last));
-    let composed = last > 1;
-    if composed {
-        show("composer's rides a second, in plain's", &ratio(1, 0));
-        show("composer's time, in best's", &ratio(0, last));
-    }
+    show("composer's rides a second, in plain's", &ratio(1, 0));
+    show("composer's time, in best's", &ratio(0, last));
 
     let names: Vec<&str> = L::PROGRAMS.iter().map(|(name, _)| *name).collect();
     let mut cells = Vec::new();
@@ -282,10 +288,6 @@ fn report<L: Rides>(rng: &mut Xorshift, word: &str) {
             println!();
         }
     }
-    if !composed {
-        return println!("\nThe composer does not answer such rides yet.");
-    }
-
     println!("\nbars:");
     let bar = |what: &str, holds: bool| {
         println!("{what}: {}", if holds { "holds" } else { "does not hold" })

@@ -15,7 +15,7 @@ pub struct Edition {
     pub longest: usize,
 }
 
-/// The base with tickets 1 to 4.
+/// The base with tickets 1 to 5 and 14.
 pub const SHORT: Edition = Edition {
     most_path_degree: 3,
     ageless: Some(0),
@@ -36,7 +36,7 @@ pub const AGED: Edition = Edition {
 };
 
 /// What holds today.
-pub const TODAY: Edition = SHORT;
+pub const TODAY: Edition = LONG;
 
 impl Edition {
     /// The most points of an answer.

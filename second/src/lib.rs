@@ -8,7 +8,7 @@
 //! record, one reply record; and a replay asks the door a whole night.
 //!
 //! What tickets ask that have not landed is here too, each in its own module
-//! and with its own tests: longer rides (`long`), the count of entries, patches,
+//! and with its own tests: the count of entries, patches,
 //! the tick, the converter, the card, the sheet and the salvage.
 
 pub mod agree;
@@ -69,6 +69,7 @@ impl Answer {
 
 /// Answers one request; its age is that of the tilt sample in milliseconds.
 ///
+/// A numerator is one whole number here; `long` has it by its two words.
 /// Refused, neither array changes. Accepted, the first L+1 places of each
 /// array are written and all later places stay.
 #[allow(clippy::too_many_arguments)]
@@ -80,7 +81,7 @@ pub fn compose(
     age: u16,
     surface: &[i32],
     path: &[i32],
-    exact: &mut [i64],
+    exact: &mut [i128],
     points: &mut [i32],
 ) -> Answer {
     let request = Request {
@@ -98,7 +99,7 @@ pub fn compose(
         Err(refused) => return refused.answer(),
     };
     for (place, &(numerator, point)) in composed.iter().enumerate() {
-        exact[place] = i64::try_from(numerator).expect("a numerator is at most 924·2^52 in size");
+        exact[place] = numerator;
         points[place] = point;
     }
     Answer::accepted(composed.len())

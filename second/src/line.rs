@@ -16,13 +16,13 @@ pub const LONGEST: usize = 4096;
 pub const MOST: i64 = 64;
 
 /// The room of both arrays when a line names none: the longest answer.
-pub const OWN_ROOM: usize = 13;
+pub const OWN_ROOM: usize = 25;
 
 /// What marks the word of an age.
 const MARK: &[u8] = b"age=";
 
 /// What the places for numerators hold beforehand.
-pub const EXACT_FILL: i64 = -7;
+pub const EXACT_FILL: i128 = -7;
 
 /// What the places for points hold beforehand.
 pub const POINT_FILL: i32 = -9;
@@ -48,7 +48,7 @@ pub struct Asked {
 #[derive(Clone, Debug, PartialEq, Eq)]
 pub struct Reply {
     pub answer: Answer,
-    pub exact: Vec<i64>,
+    pub exact: Vec<i128>,
     pub points: Vec<i32>,
 }
 

@@ -1,9 +1,9 @@
 //! Reading a ride at k/q, by Bernstein's formula on whole numbers.
 //!
-//! Nothing here uses a blossom: these readings judge the composed net. With
-//! q at most 16 and the bounds of a request, every reading is at most
-//! 2^12·1024^4·16^12 = 2^100 in size and so are the sums on the way, so that
-//! twice the difference of two readings stays below 2^102.
+//! Nothing here uses a blossom: these readings judge the composed net. A
+//! reading is at most 2^12·1024^r·q^L in size and so are the sums on the way:
+//! at most 2^100 for q up to 16 where L is at most 12, and at most 2^124 for q
+//! up to 8 where L is at most 24.
 
 use crate::binomial::binomial;
 use crate::quantity::{PathNumber, Travel};

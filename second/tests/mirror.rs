@@ -27,9 +27,9 @@ fn between(asked: &Asked) -> bool {
     let reply = asked.reply();
     let exact = &reply.exact[..reply.answer.count as usize];
     let r = asked.first + asked.second;
-    let half = |at: usize, numerator: i64| {
+    let half = |at: usize, numerator: i128| {
         let ways = second::binomial::binomial(exact.len() - 1, at);
-        let twice = 2 * i128::from(numerator);
+        let twice = 2 * numerator;
         let divisor = ways << (10 * r);
         twice % divisor == 0 && twice / divisor % 2 != 0
     };

@@ -163,6 +163,7 @@ fn an_edge_is_a_ride() {
         );
         let count = ride.count as usize;
         assert_eq!(count, outer * domain + 1);
+        let exact: Vec<i128> = exact.iter().map(|&numerator| numerator.into()).collect();
         assert_eq!(exact[..count], edge[..count]);
         assert_eq!(points[..count], rounded[..count]);
     }

@@ -3,13 +3,13 @@
 
 use second::{compose, Answer};
 
-const M: i64 = 1 << 20;
+const M: i128 = 1 << 20;
 
 /// Composes with room for the longest answer and some spare places, and
 /// gives back the answer with what was written; spare places must stay.
-fn ride(degrees: [u32; 4], surface: &[i32], path: &[i32]) -> (Answer, Vec<i64>, Vec<i32>) {
-    let mut exact = [-7; 20];
-    let mut points = [-9; 17];
+fn ride(degrees: [u32; 4], surface: &[i32], path: &[i32]) -> (Answer, Vec<i128>, Vec<i32>) {
+    let mut exact = [-7; 32];
+    let mut points = [-9; 29];
     let [form, first, second, n] = degrees;
     let answer = compose(
         form,
@@ -29,7 +29,7 @@ fn ride(degrees: [u32; 4], surface: &[i32], path: &[i32]) -> (Answer, Vec<i64>, 
 }
 
 /// A ride that must be accepted with these numerators and points.
-fn good(degrees: [u32; 4], surface: &[i32], path: &[i32], numerators: &[i64], expected: &[i32]) {
+fn good(degrees: [u32; 4], surface: &[i32], path: &[i32], numerators: &[i128], expected: &[i32]) {
     let (answer, exact, points) = ride(degrees, surface, path);
     let accepted = Answer {
         number: 0,
@@ -164,7 +164,7 @@ fn p12() {
     assert_eq!(answer.count, 13);
     assert_eq!(exact[6], 4_161_326_055_690_338_304);
     let binomials = [1, 12, 66, 220, 495, 792, 924, 792, 495, 220, 66, 12, 1];
-    assert_eq!(exact, binomials.map(|ways| ways << 52));
+    assert_eq!(exact, binomials.map(|ways: i128| ways << 52));
     assert_eq!(points, [4096; 13]);
 }
 

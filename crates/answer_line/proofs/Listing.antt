@@ -2,6 +2,7 @@
 use mathlib.Core.Path.{_≡_, refl, sym, ap, _∙_, subst}
 use mathlib.Core.List.{List, [], _∷_, _++_, append-assoc, append-nil}
 use Prim.Native.Nat.{ℕ, _+_, _*_, _≤_, _<_}
+use native.Mathlib.Nat.{mul-zero, mul-one, mul-add}
 use native.Mathlib.Numerals.{add-one}
 use native.Mathlib.Omega.{arith}
 use lib.IntN.{ℤ, pos}
@@ -21,28 +22,28 @@ unfolding spaced
 spaced-more l k h =
     rw (add-one k, take-suc l k (pos 0) h) (spaced-append (take k l) _ ∙ rw append-nil)
 
--- a loop over numbers: k of them are written, up to a place
-pub record Listing (s : List ℤ) (l : List ℕ) (i : ℕ) (m : List ℕ) (j k : ℕ) : Type 0 where
+-- a loop over numbers of at most `each` bytes: k of them are written, up to a place
+pub record Listing (each : ℕ) (s : List ℤ) (l : List ℕ) (i : ℕ) (m : List ℕ) (j k : ℕ) : Type 0 where
   pub upto : k ≤ length s
   pub size : length m ≡ length l
-  pub so-far : Written (21 * k) l i (spaced (take k s)) m j
+  pub so-far : Written (each * k) l i (spaced (take k s)) m j
 
-pub listing-none : (s : List ℤ) (l : List ℕ) (i : ℕ) → Listing s l i l i 0
+pub listing-none : (each : ℕ) (s : List ℤ) (l : List ℕ) (i : ℕ) → Listing each s l i l i 0
 unfolding spaced
-listing-none s l i = record { upto = omega arith; size = refl; so-far = written-none 0 l i [] l i }
+listing-none each s l i = record { upto = omega arith; size = refl; so-far = rw mul-zero (written-none 0 l i [] l i) }
 
-module _ (s : List ℤ) (l : List ℕ) (i : ℕ) (m : List ℕ) (j k : ℕ) (c : Listing s l i m j k) where
+module _ (each : ℕ) (s : List ℤ) (l : List ℕ) (i : ℕ) (m : List ℕ) (j k : ℕ) (c : Listing each s l i m j k) where
   pub listing-more : k < length s → (n : List ℕ) (e : ℕ) → length n ≡ length m
-      → Written 21 m j (32 ∷ decimal (getD s k (pos 0))) n e → Listing s l i n e (k + 1)
+      → Written each m j (32 ∷ decimal (getD s k (pos 0))) n e → Listing each s l i n e (k + 1)
   listing-more h n e z w = record {
     upto = omega arith;
     size = z ∙ c .size;
     so-far =
-        let q : 21 * (k + 1) ≡ 21 * k + 21 = omega arith in
-        rw (q, spaced-more s k h) (written-then (21 * k) l i _ m j 21 _ n e (c .so-far) w);
+        let q : each * (k + 1) ≡ each * k + each = mul-add each k 1 ∙ ap (λ x. each * k + x) (mul-one each) in
+        rw (q, spaced-more s k h) (written-then (each * k) l i _ m j each _ n e (c .so-far) w);
   }
 
-  pub listing-all : length s ≤ k → Written (21 * length s) l i (spaced s) m j
+  pub listing-all : length s ≤ k → Written (each * length s) l i (spaced s) m j
   listing-all h =
       let e : k ≡ length s = omega arith in
-      rw (← e) (subst (λ t. Written (21 * k) l i (spaced t) m j) (take-all k s (omega arith)) (c .so-far))
+      rw (← e) (subst (λ t. Written (each * k) l i (spaced t) m j) (take-all k s (omega arith)) (c .so-far))

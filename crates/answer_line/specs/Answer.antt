@@ -1,7 +1,9 @@
 -- How an answer line is written. Assumes nothing.
+use mathlib.Core.Path.{_≡_}
 use mathlib.Core.List.{List, [], _∷_, _++_}
-use Prim.Native.Nat.{ℕ}
+use Prim.Native.Nat.{ℕ, _≤_}
 use lib.IntN.{ℤ}
+use lib.ListN.{length}
 use Rattle.spell.specs.Decimal.{digits, decimal}
 
 -- numbers with one space before each
@@ -20,3 +22,9 @@ lists exact points = 32 ∷ 124 ∷ spaced exact ++ 32 ∷ 124 ∷ spaced points
 -- both and a newline
 unfoldable pub answerLine : ℕ → ℕ → ℕ → List ℤ → List ℤ → List ℕ
 answerLine number place count exact points = verdict number place count ++ lists exact points ++ 10 ∷ []
+
+-- lists of at most 64 places each, as many low words as high ones
+pub record Listed (high : List ℤ) (low : List ℕ) (points : List ℤ) : Type 0 where
+  pub alike : length low ≡ length high
+  pub few : length high ≤ 64
+  pub few-points : length points ≤ 64

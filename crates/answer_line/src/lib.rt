@@ -5,11 +5,14 @@ ghost use Prim.Native.Nat.{_+_, _*_, _≤_, _<_};
 ghost use lib.IntN.{pos};
 ghost use lib.ListN.{length, getD};
 ghost use Rattle.spell.specs.Decimal.{decimal, Written};
-ghost use Rattle.answer_line.specs.Answer.{spaced, verdict, lists, answerLine};
+ghost use Rattle.two_words.specs.Words.{twoWords, numbersOf};
+ghost use Rattle.answer_line.specs.Answer.{spaced, verdict, lists, answerLine, Listed};
+use long_decimal::write_words;
 use spell::write_bytes;
 use spell::write_natural;
 use spell::write_next_natural;
 use spell::write_number;
+use two_words::Words;
 use units::travel_at;
 use units::units_of;
 use whole::Num;
@@ -23,22 +26,34 @@ fn write_next(n: Num, out: &mut [u8], at: usize) -> usize
     write_number(n, out, at + 1)
 }
 
-// Numerator k.
-fn numerator(list: &[i64], k: usize) -> Num
-    requires { ⌜ k < length (now list) ⌝ }
-    ensures { λ r. ⌜ r .0 ≡ getD (now (list .entry)) k (pos 0) ⌝ }
+// Numerator k, by its words.
+fn numerator(high: &[i64], low: &[u64], k: usize) -> Words
+    requires { ⌜ (k < length (now high)) × (k < length (now low)) ⌝ }
+    ensures { λ r. ⌜ (r .high .0 ≡ getD (now (high .entry)) k (pos 0)) × (r .low ≡ getD (now (low .entry)) k 0) ⌝ }
 {
-    Num(list[k])
+    Words {
+        high: Num(high[k]),
+        low: low[k],
+    }
 }
 
-fn write_numerators(list: &[i64], out: &mut [u8], at: usize) -> usize
-    requires { ⌜ at + 21 * length (now list) ≤ length (now out) ⌝ }
-    ensures { λ r. ⌜ Written (21 * length (now (list .entry))) (now (out .entry)) at (spaced (now (list .entry))) (now (out .exit)) r ⌝ }
+// A space and a number by two words.
+fn write_next_words(n: Words, out: &mut [u8], at: usize) -> usize
+    requires { ⌜ at + 41 ≤ length (now out) ⌝ }
+    ensures { λ r. ⌜ Written 41 (now (out .entry)) at (32 ∷ decimal (twoWords (n .high .0) (n .low))) (now (out .exit)) r ⌝ }
+{
+    out[at] = b' ';
+    write_words(n, out, at + 1)
+}
+
+fn write_numerators(high: &[i64], low: &[u64], out: &mut [u8], at: usize) -> usize
+    requires { ⌜ (length (now low) ≡ length (now high)) × (at + 41 * length (now high) ≤ length (now out)) ⌝ }
+    ensures { λ r. ⌜ Written (41 * length (now (high .entry))) (now (out .entry)) at (spaced (numbersOf (now (high .entry)) (now (low .entry)))) (now (out .exit)) r ⌝ }
 {
     let mut end = at;
     let mut k = 0;
-    while k < list.len() {
-        end = write_next(numerator(list, k), out, end);
+    while k < high.len() {
+        end = write_next_words(numerator(high, low, k), out, end);
         k += 1;
     }
     end
@@ -76,12 +91,12 @@ fn write_bar(out: &mut [u8], at: usize) -> usize
 }
 
 // ` | numerators | points`.
-fn write_lists(exact: &[i64], points: &[i32], out: &mut [u8], at: usize) -> usize
-    requires { ⌜ (length (now exact) ≤ 64) × (length (now points) ≤ 64) × (at + 4000 ≤ length (now out)) ⌝ }
-    ensures { λ r. ⌜ Written 4000 (now (out .entry)) at (lists (now (exact .entry)) (now (points .entry))) (now (out .exit)) r ⌝ }
+fn write_lists(high: &[i64], low: &[u64], points: &[i32], out: &mut [u8], at: usize) -> usize
+    requires { ⌜ Listed (now high) (now low) (now points) × (at + 4000 ≤ length (now out)) ⌝ }
+    ensures { λ r. ⌜ Written 4000 (now (out .entry)) at (lists (numbersOf (now (high .entry)) (now (low .entry))) (now (points .entry))) (now (out .exit)) r ⌝ }
 {
     let a = write_bar(out, at);
-    let b = write_numerators(exact, out, a);
+    let b = write_numerators(high, low, out, a);
     let c = write_bar(out, b);
     write_points(points, out, c)
 }
@@ -91,16 +106,17 @@ pub fn write_answer(
     number: u32,
     place: usize,
     count: usize,
-    exact: &[i64],
+    high: &[i64],
+    low: &[u64],
     points: &[i32],
     out: &mut [u8],
     at: usize,
 ) -> usize
-    requires { ⌜ (length (now exact) ≤ 64) × (length (now points) ≤ 64) × (at + 4096 ≤ length (now out)) ⌝ }
-    ensures { λ r. ⌜ Written 4096 (now (out .entry)) at (answerLine number place count (now (exact .entry)) (now (points .entry))) (now (out .exit)) r ⌝ }
+    requires { ⌜ Listed (now high) (now low) (now points) × (at + 4096 ≤ length (now out)) ⌝ }
+    ensures { λ r. ⌜ Written 4096 (now (out .entry)) at (answerLine number place count (numbersOf (now (high .entry)) (now (low .entry))) (now (points .entry))) (now (out .exit)) r ⌝ }
 {
     let a = write_verdict(number, place, count, out, at);
-    let b = write_lists(exact, points, out, a);
+    let b = write_lists(high, low, points, out, a);
     out[b] = b'\n';
     b + 1
 }

@@ -8,13 +8,13 @@ use Rattle.request.specs.Request.{requestOf}
 use Rattle.pieces.specs.Kept.{isPassed}
 use Rattle.text.specs.Line.{Said, said}
 use Rattle.tell.specs.Tell.{unreadable, complaint}
-use Rattle.reply.specs.Reply.{replyOf, exactLent, pointsLent}
+use Rattle.reply.specs.Reply.{replyOf, arraysLent}
 
 -- the answer line of the request that a line says
 unfoldable pub lineOf : Said → List ℕ
 lineOf s =
     replyOf (requestOf (s .head) (s .surface) (s .path)) (s .age) (s .rooms .given)
-    (exactLent (s .rooms .exact)) (pointsLent (s .rooms .points))
+    (arraysLent (s .rooms .exact) (s .rooms .points))
 
 -- what is answered to a line: nothing where it is passed over
 unfoldable pub answerOf : List ℕ → List ℕ

@@ -7,6 +7,7 @@ use native.Mathlib.Nat.{add-zero}
 use native.Mathlib.Omega.{arith}
 use borrow.Author.Tests.{ltb-false, eqb-true, not-false}
 use lib.IntN.{ℤ, pos, negsuc, _+ℤ_}
+use Rattle.request.specs.declared.Rooms.{Rooms}
 use Rattle.request.specs.Head.{numbers}
 use Rattle.request.specs.Request.{Request}
 use Rattle.request.specs.Refusal.{answer, notBalance, balancePlace, uneven, isNumber}
@@ -27,8 +28,9 @@ each-point : (rq : Request) → rq .head .form ≡ 3 → notBalance rq ≡ false
 unfolding notBalance balancePlace uneven pathNumber numberAt numbers
 each-point rq form even c h =
     let all : rq .head .N + 1 ≤ balancePlace (rq .path) (rq .head .N) = ltb-false _ _ (sym (at-triangle (rq .head) _ _ _ (omega arith) (omega arith)) ∙ even) in
-    rw (at-triangle {A = ℕ} (rq .head) 1 2 3 (omega arith) (omega arith), add-zero) (is-number _ 1024 (least-before (rq .head .N + 1) (uneven (rq .path)) c (omega arith)))
+    rw (at-triangle {A = ℕ} (rq .head) 1 2 3 (omega arith) (omega arith), add-zero)
+    (is-number _ 1024 (least-before (rq .head .N + 1) (uneven (rq .path)) c (omega arith)))
 
-pub place-adds-up : (rq : Request) (age exactRoom pointsRoom : ℕ) → answer rq age exactRoom pointsRoom .number ≡ 0 → rq .head .form ≡ 3
+pub place-adds-up : (rq : Request) (age : ℕ) (rooms : Rooms) → answer rq age rooms .number ≡ 0 → rq .head .form ≡ 3
     → (k q : ℕ) → coordinate rq 0 k q +ℤ coordinate rq 1 k q +ℤ coordinate rq 2 k q ≡ scale rq q
-place-adds-up rq age exactRoom pointsRoom zero-is form k q = place-balanced rq k q (each-point rq form (accepts rq age exactRoom pointsRoom zero-is .balance))
+place-adds-up rq age rooms zero-is form k q = place-balanced rq k q (each-point rq form (accepts rq age rooms zero-is .balance))

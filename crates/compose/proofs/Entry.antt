@@ -1,5 +1,5 @@
--- What the entry does with an answer: a refusal leaves both arrays, an acceptance writes the numerators and the rounded
--- points. Assumes nothing.
+-- What the entry does with an answer: a refusal leaves the three arrays, an acceptance writes the words of the numerators and the
+-- rounded points. Assumes nothing.
 use mathlib.Core.Path.{_≡_, sym, ap, _∙_}
 use mathlib.Core.List.{List}
 use Prim.Native.Nat.{ℕ, _+_, _*_, _-_, _≤_}
@@ -7,34 +7,40 @@ use native.Mathlib.Omega.{arith}
 use lib.IntN.{ℤ}
 use lib.ListN.{length}
 use borrow.Author.Tests.{ltb-false}
+use Rattle.two_words.specs.Words.{highWord, lowWord}
 use Rattle.request.specs.declared.Answer.{Answer}
+use Rattle.request.specs.declared.Rooms.{Rooms}
 use Rattle.request.specs.Head.{mostDegree, mostN, mostPoints, degree, longest}
 use Rattle.request.specs.Request.{Request}
 use Rattle.request.specs.Refusal.{answer, accepted, valuePlace, parameterPlace, balancePlace, notValue, notParameter, notBalance, notRoom}
 use Rattle.request.proofs.Forms.{degree-most, longest-most, at-triangle, or-none}
 use Rattle.request.proofs.Bounds.{parameter-most, value-most, balance-most}
 use Rattle.request.proofs.Accepted.{Accepted, accepts, refusal-empty}
-use Rattle.net.specs.Composed.{numerator, denominator, point}
+use Rattle.net.specs.Composed.{denominator, point}
 use Rattle.net.specs.Sizes.{Composable}
 use Rattle.net.proofs.Bounds.{numerator-size}
-use Rattle.limbs.specs.Limbs.{worth}
 use Rattle.sums.specs.Contract.{Summed}
-use Rattle.compose.specs.Afterwards.{afterwards, exactAfter, pointsAfter}
-use Rattle.compose.specs.Contract.{Composed, roundedAt, PointsAt, Written}
+use Rattle.compose.specs.Afterwards.{afterwards, Arrays, roomsOf, highAfter, lowAfter, pointsAfter}
+use Rattle.compose.specs.Contract.{Composed, roundedAt, PointsAt, Enough, Wrote}
 use Rattle.compose.proofs.Written.{afterwards-none, afterwards-same}
 
 -- a refusal leaves everything as it was
-pub refused-result : (rq : Request) (age : ℕ) (exact points : List ℤ) (a : Answer) → a ≡ answer rq age (length exact) (length points) → (a .number ≡ 0 → ⊥)
-    → Composed rq age exact points a exact points
-unfolding exactAfter pointsAfter
-refused-result rq age exact points a e some =
-    let none : answer rq age (length exact) (length points) .count ≡ 0 = refusal-empty rq age (length exact) (length points) (rw e at some) in
-    record { answered = e; exact-is = rw none (sym (afterwards-none _ exact)); points-is = rw none (sym (afterwards-none _ points)) }
+pub refused-result : (rq : Request) (age : ℕ) (lent : Arrays) (a : Answer) → a ≡ answer rq age (roomsOf lent) → (a .number ≡ 0 → ⊥)
+    → Composed rq age lent a lent
+unfolding highAfter lowAfter pointsAfter
+refused-result rq age lent a e some =
+    let none : answer rq age (roomsOf lent) .count ≡ 0 = refusal-empty rq age (roomsOf lent) (rw e at some) in
+    record {
+      answered = e;
+      high-is = rw none (sym (afterwards-none _ (lent .high)));
+      low-is = rw none (sym (afterwards-none _ (lent .low)));
+      points-is = rw none (sym (afterwards-none _ (lent .points)));
+    }
 
 -- what acceptance leaves of a request
-pub composable : (rq : Request) (age e p : ℕ) → Accepted rq age e p → Composable rq
+pub composable : (rq : Request) (age : ℕ) (rooms : Rooms) → Accepted rq age rooms → Composable rq
 unfolding notValue notParameter notBalance
-composable rq age e p f =
+composable rq age rooms f =
     let v : length (rq .surface) ≤ valuePlace (rq .surface) = ltb-false _ _ (f .value) in
     let m : length (rq .path) ≤ parameterPlace (rq .path) = ltb-false _ _ (f .parameter) in
     record {
@@ -49,50 +55,57 @@ composable rq age e p f =
       };
     }
 
-pub record Room (rq : Request) (e p count : ℕ) : Type 0 where
+-- the count of an acceptance
+pub record Granted (rq : Request) (lent : Arrays) (count : ℕ) : Type 0 where
   pub is : count ≡ longest (rq .head) + 1
   pub most : count ≤ mostPoints
-  pub exact-room : count ≤ e
-  pub points-room : count ≤ p
+  pub enough : Enough lent count
 
-pub room-for : (rq : Request) (age e p : ℕ) (a : Answer) → a ≡ answer rq age e p → a .number ≡ 0 → Room rq e p (a .count)
+pub granted : (rq : Request) (age : ℕ) (lent : Arrays) (a : Answer) → a ≡ answer rq age (roomsOf lent) → a .number ≡ 0 → Granted rq lent (a .count)
 unfolding accepted notRoom longest
-room-for rq age e p a eq number =
-    let f = accepts rq age e p (ap (λ (b : Answer). b .number) (sym eq) ∙ number) in
+granted rq age lent a eq number =
+    let f = accepts rq age (roomsOf lent) (ap (λ (b : Answer). b .number) (sym eq) ∙ number) in
     let is : a .count ≡ degree (rq .head) * rq .head .N + 1 = ap (λ (b : Answer). b .count) (eq ∙ f .answered) in
     let L : longest (rq .head) ≤ mostDegree * mostN = longest-most (rq .head) (f .degrees) in
-    let r = or-none _ _ (f .room) in
-    let x : longest (rq .head) + 1 ≤ e = ltb-false _ _ (r .0) in
-    let y : longest (rq .head) + 1 ≤ p = ltb-false _ _ (r .1) in
-    record { is = is; most = omega arith; exact-room = omega arith; points-room = omega arith }
+    let all = or-none _ _ (f .room) in
+    let words = or-none _ _ (all .0) in
+    let x : longest (rq .head) + 1 ≤ length (lent .high) = ltb-false _ _ (words .0) in
+    let y : longest (rq .head) + 1 ≤ length (lent .low) = ltb-false _ _ (words .1) in
+    let z : longest (rq .head) + 1 ≤ length (lent .points) = ltb-false _ _ (all .1) in
+    record { is = is; most = omega arith; enough = record { high = omega arith; low = omega arith; points = omega arith } }
 
-module _ (rq : Request) (sums : List ℤ) (r count : ℕ) (fine : Composable rq) (n : Summed rq sums) (s : r ≡ degree (rq .head)) (c : count ≡ longest (rq .head) + 1) where
+module _ (rq : Request) (sums : List ℤ) (r count : ℕ) (fine : Composable rq) (n : Summed rq sums) (s : r ≡ degree (rq .head))
+    (c : count ≡ longest (rq .head) + 1) where
   -- L, as the count has it
   L : count - 1 ≡ longest (rq .head)
   L = omega arith
-
-  -- what is rounded is the rounded point
-  rounds : (R : ℕ) → roundedAt (worth sums R) (count - 1) r R ≡ point rq R
-  unfolding roundedAt point denominator
-  rounds R = rw (n .each R, L, s)
 
   pub points-at : count ≤ mostPoints → PointsAt sums count r
   unfolding denominator
   points-at m = record {
     row = m;
     few = rw s (degree-most (rq .head) (fine .small));
-    long = n .long;
-    fits = n .fits;
+    long = let l = n .long in omega arith;
+    small = n .small;
     within = λ R l. rw (n .each R, L, s) (numerator-size rq fine R);
   }
 
-  pub accepted-result : (age : ℕ) (exact points : List ℤ) (a : Answer) → a ≡ answer rq age (length exact) (length points) → a .count ≡ count
-      → (exact′ points′ : List ℤ) → Written sums r count exact points exact′ points′ → Composed rq age exact points a exact′ points′
-  unfolding exactAfter pointsAfter
-  accepted-result age exact points a e k exact′ points′ w =
-      let t : answer rq age (length exact) (length points) .count ≡ count = ap (λ (b : Answer). b .count) (sym e) ∙ k in
-      record {
-        answered = e;
-        exact-is = w .numbers ∙ afterwards-same count _ (numerator rq) exact (λ R m. n .each R) ∙ ap (λ i. afterwards i (numerator rq) exact) (sym t);
-        points-is = w .rounds ∙ afterwards-same count _ (point rq) points (λ R m. rounds R) ∙ ap (λ i. afterwards i (point rq) points) (sym t);
-      }
+  -- what is rounded is the rounded point
+  rounds : (R : ℕ) → roundedAt sums (count - 1) r R ≡ point rq R
+  unfolding roundedAt point denominator
+  rounds R = rw (n .each R, L, s)
+
+  pub accepted-result : (age : ℕ) (lent : Arrays) (a : Answer) → a ≡ answer rq age (roomsOf lent) → a .count ≡ count → (left : Arrays)
+      → Wrote sums (count - 1) r count lent left
+      → Composed rq age lent a left
+  unfolding highAfter lowAfter pointsAfter
+  accepted-result age lent a e k left w = record {
+    answered = e;
+    high-is = w .high-is ∙ written (lent .high) (λ R. ap highWord (n .each R));
+    low-is = w .low-is ∙ written (lent .low) (λ R. ap lowWord (n .each R));
+    points-is = w .points-is ∙ written (lent .points) rounds;
+  }
+    where
+      written : {A : Type 0} {f g : ℕ → A} (l : List A) → ((R : ℕ) → f R ≡ g R) → afterwards count f l ≡ afterwards (answer rq age (roomsOf lent) .count) g l
+      written {A} {f} {g} l each =
+          afterwards-same count f g l (λ R m. each R) ∙ ap (λ i. afterwards i g l) (sym (ap (λ (b : Answer). b .count) (sym e) ∙ k))

@@ -63,4 +63,5 @@ unfolding afterwards
 afterwards-past k f lent i d m =
     let e : i ≡ length (listBelow k f) + (i - k) = omega (arith, below-length k f) in
     let g : k + (i - k) ≡ i = omega arith in
-    ap (λ n. getD (listBelow k f ++ drop k lent) n d) e ∙ getD-append-add (listBelow k f) (drop k lent) (i - k) d ∙ getD-drop k lent (i - k) d ∙ ap (λ n. getD lent n d) g
+    ap (λ n. getD (listBelow k f ++ drop k lent) n d) e ∙ getD-append-add (listBelow k f) (drop k lent) (i - k) d ∙ getD-drop k lent (i - k) d ∙ ap
+    (λ n. getD lent n d) g

@@ -1,8 +1,10 @@
--- What both output arrays hold afterwards, for every input. Assumes nothing.
+-- What the three output arrays hold afterwards, for every input. Assumes nothing.
 use mathlib.Core.List.{List, [], _∷_, _++_}
 use Prim.Native.Nat.{ℕ, zero, suc}
 use lib.IntN.{ℤ}
 use lib.ListN.{length, drop}
+use Rattle.two_words.specs.Words.{highWord, lowWord}
+use Rattle.request.specs.declared.Rooms.{Rooms}
 use Rattle.request.specs.Request.{Request}
 use Rattle.request.specs.Refusal.{answer}
 use Rattle.net.specs.Composed.{numerator, point}
@@ -16,10 +18,26 @@ listBelow (suc n) f = f zero ∷ listBelow n (λ k. f (suc k))
 unfoldable pub afterwards {ℓ} : {A : Type ℓ} → ℕ → (ℕ → A) → List A → List A
 afterwards count f l = listBelow count f ++ drop count l
 
--- "On refusal neither output array changes. On acceptance the first L+1 places of each are written and all later places
--- stay." exact and points are the arrays as they were lent; their lengths are the rooms.
-unfoldable pub exactAfter : Request → ℕ → List ℤ → List ℤ → List ℤ
-exactAfter rq age exact points = afterwards (answer rq age (length exact) (length points) .count) (numerator rq) exact
+-- the lent arrays: the high words and the low words of the numerators, and the rounded points
+pub record Arrays : Type 0 where
+  pub high : List ℤ
+  pub low : List ℕ
+  pub points : List ℤ
 
-unfoldable pub pointsAfter : Request → ℕ → List ℤ → List ℤ → List ℤ
-pointsAfter rq age exact points = afterwards (answer rq age (length exact) (length points) .count) (point rq) points
+abbrev pub arrays : List ℤ → List ℕ → List ℤ → Arrays
+arrays high low points = record { high = high; low = low; points = points }
+
+-- how many places each of them has
+abbrev pub roomsOf : Arrays → Rooms
+roomsOf lent = record { high = length (lent .high); low = length (lent .low); points = length (lent .points) }
+
+-- "A refusal changes none of them" (02, ticket 6). "On acceptance the first L+1 places of each are written and all later places
+-- stay."
+unfoldable pub highAfter : Request → ℕ → Arrays → List ℤ
+highAfter rq age lent = afterwards (answer rq age (roomsOf lent) .count) (λ R. highWord (numerator rq R)) (lent .high)
+
+unfoldable pub lowAfter : Request → ℕ → Arrays → List ℕ
+lowAfter rq age lent = afterwards (answer rq age (roomsOf lent) .count) (λ R. lowWord (numerator rq R)) (lent .low)
+
+unfoldable pub pointsAfter : Request → ℕ → Arrays → List ℤ
+pointsAfter rq age lent = afterwards (answer rq age (roomsOf lent) .count) (point rq) (lent .points)

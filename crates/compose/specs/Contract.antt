@@ -1,45 +1,61 @@
--- The composer's contract: three equations that fix the answer and every place of both arrays, for every input.
+-- The composer's contract: four equations that fix the answer and every place of the three arrays, for every input.
 -- Assumes nothing.
 use mathlib.Core.Path.{_≡_}
 use mathlib.Core.List.{List}
-use Prim.Native.Nat.{ℕ, _+_, _*_, _-_, _^_, _≤_, _<_}
+use Prim.Native.Nat.{ℕ, _*_, _-_, _^_, _≤_, _<_}
 use lib.IntN.{ℤ, pos, natAbs}
-use lib.ListN.{length, getD}
+use lib.ListN.{length, getD, set}
 use Rattle.whole.specs.Choose.{choose}
 use Rattle.whole.specs.Round.{nearest}
 use Rattle.limbs.specs.Limbs.{worth}
+use Rattle.two_words.specs.Words.{highWord, lowWord}
 use Rattle.request.specs.declared.Answer.{Answer}
 use Rattle.request.specs.Head.{mostDegree, mostN, mostPoints}
 use Rattle.request.specs.Request.{Request}
 use Rattle.request.specs.Refusal.{answer}
-use Rattle.compose.specs.Afterwards.{afterwards, exactAfter, pointsAfter}
+use Rattle.compose.specs.Afterwards.{afterwards, Arrays, roomsOf, highAfter, lowAfter, pointsAfter}
 
--- age is that of the tilt sample; exact and points are the arrays as they were lent
-pub record Composed (rq : Request) (age : ℕ) (exact points : List ℤ) (a : Answer) (exact′ points′ : List ℤ) : Type 0 where
-  pub answered : a ≡ answer rq age (length exact) (length points)
-  pub exact-is : exact′ ≡ exactAfter rq age exact points
-  pub points-is : points′ ≡ pointsAfter rq age exact points
+-- age is that of the tilt sample, lent the arrays as they were lent and left as they are afterwards
+pub record Composed (rq : Request) (age : ℕ) (lent : Arrays) (a : Answer) (left : Arrays) : Type 0 where
+  pub answered : a ≡ answer rq age (roomsOf lent)
+  pub high-is : left .high ≡ highAfter rq age lent
+  pub low-is : left .low ≡ lowAfter rq age lent
+  pub points-is : left .points ≡ pointsAfter rq age lent
 
--- a numerator over binomial(L, R)·1024^r, rounded
-unfoldable pub roundedAt : ℤ → ℕ → ℕ → ℕ → ℤ
-roundedAt n L r R = nearest n (choose L R * 1024 ^ r)
+-- ---- from the sums in their limbs to the three arrays
+-- numerator R over binomial(L, R)·1024^r, rounded
+unfoldable pub roundedAt : List ℤ → ℕ → ℕ → ℕ → ℤ
+roundedAt sums L r R = nearest (worth sums R) (choose L R * 1024 ^ r)
 
--- when that is a travel: the numerator is at most its denominator times the greatest travel
+-- when a numerator n gives a travel at R: it is at most its denominator times the greatest travel
 pub record PointAt (n : ℤ) (L r R : ℕ) : Type 0 where
   pub row : L ≤ mostDegree * mostN
   pub here : R ≤ L
   pub few : r ≤ mostDegree
   pub within : natAbs n ≤ choose L R * 1024 ^ r * 4096
 
--- places of which the first `count` can be put together and rounded
+-- when each of the first `count` places of sums does
 pub record PointsAt (sums : List ℤ) (count r : ℕ) : Type 0 where
   pub row : count ≤ mostPoints
   pub few : r ≤ mostDegree
-  pub long : length sums ≡ 2 * mostPoints
-  pub fits : (R : ℕ) → natAbs (worth sums R) + 2 * natAbs (getD sums (2 * R + 1) (pos 0)) < 2 ^ 63
+  pub long : 2 * count ≤ length sums
+  pub small : (k : ℕ) → natAbs (getD sums k (pos 0)) ≤ 2 ^ 56
   pub within : (R : ℕ) → R < count → natAbs (worth sums R) ≤ choose (count - 1) R * 1024 ^ r * 4096
 
--- what is written of them
-pub record Written (sums : List ℤ) (r count : ℕ) (exact points exact′ points′ : List ℤ) : Type 0 where
-  pub numbers : exact′ ≡ afterwards count (worth sums) exact
-  pub rounds : points′ ≡ afterwards count (λ R. roundedAt (worth sums R) (count - 1) r R) points
+-- room for `count` places in each array
+pub record Enough (lent : Arrays) (count : ℕ) : Type 0 where
+  pub high : count ≤ length (lent .high)
+  pub low : count ≤ length (lent .low)
+  pub points : count ≤ length (lent .points)
+
+-- what stands at R is written to place R of each
+pub record Put (sums : List ℤ) (L r R : ℕ) (lent left : Arrays) : Type 0 where
+  pub high-is : left .high ≡ set (lent .high) R (highWord (worth sums R))
+  pub low-is : left .low ≡ set (lent .low) R (lowWord (worth sums R))
+  pub points-is : left .points ≡ set (lent .points) R (roundedAt sums L r R)
+
+-- and all that stands below `count`
+pub record Wrote (sums : List ℤ) (L r count : ℕ) (lent left : Arrays) : Type 0 where
+  pub high-is : left .high ≡ afterwards count (λ R. highWord (worth sums R)) (lent .high)
+  pub low-is : left .low ≡ afterwards count (λ R. lowWord (worth sums R)) (lent .low)
+  pub points-is : left .points ≡ afterwards count (roundedAt sums L r) (lent .points)

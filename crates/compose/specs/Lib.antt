@@ -1,3 +1,3 @@
--- What the composer leaves in its two output arrays. Assumes nothing.
+-- What the composer leaves in its three output arrays. Assumes nothing.
 pub mod Afterwards
 pub mod Contract

@@ -1,22 +1,36 @@
 // The lean curve composer: document 01's public entry. A request is judged whole before anything is written; an accepted
-// one has its exact numerators and its rounded points written to the two lent arrays.
+// one has its exact numerators, as a high and a low word each, and its rounded points written to the three lent arrays.
 ghost use mathlib.Core.Path.{_≡_};
-ghost use Prim.Native.Nat.{_≤_, _<_};
+ghost use Prim.Native.Nat.{_+_, _*_, _-_, _^_, _≤_, _<_};
 ghost use lib.ListN.{length, set};
+ghost use Rattle.whole.specs.Choose.{choose};
+ghost use Rattle.whole.specs.Round.{nearest};
+ghost use Rattle.two_words.specs.Words.{twoWords};
 ghost use Rattle.pascal.specs.Entry.{Pascal};
-ghost use Rattle.compose.specs.Contract.{Composed, roundedAt, PointAt, PointsAt, Written};
+ghost use Rattle.request.specs.Request.{requestOf};
+ghost use Rattle.compose.specs.Afterwards.{arrays};
+ghost use Rattle.compose.specs.Contract.{Composed, PointAt, PointsAt, Enough, Put, Wrote};
 use request::Answer;
 use request::Head;
+use request::Rooms;
+use two_words::Words;
 use units::Age;
 use units::Travel;
 use whole::Num;
 
-fn put_exact(exact: &mut [i64], R: usize, x: Num)
-    requires { ⌜ R < length (now exact) ⌝ }
-    ensures { λ _. ⌜ now (exact .exit) ≡ set (now (exact .entry)) R (x .0) ⌝ }
+fn put_high(high: &mut [i64], R: usize, x: Num)
+    requires { ⌜ R < length (now high) ⌝ }
+    ensures { λ _. ⌜ now (high .exit) ≡ set (now (high .entry)) R (x .0) ⌝ }
 {
     let v = x.0;
-    exact[R] = v;
+    high[R] = v;
+}
+
+fn put_low(low: &mut [u64], R: usize, x: u64)
+    requires { ⌜ R < length (now low) ⌝ }
+    ensures { λ _. ⌜ now (low .exit) ≡ set (now (low .entry)) R x ⌝ }
+{
+    low[R] = x;
 }
 
 fn put_point(points: &mut [i32], R: usize, t: Travel)
@@ -27,59 +41,82 @@ fn put_point(points: &mut [i32], R: usize, t: Travel)
     points[R] = v;
 }
 
-// The rounded point at R of a curve of degree L whose numerator n is over binomial(L, R)·1024^r.
-fn rounded(table: &[u32; 91], n: Num, L: usize, r: usize, R: usize) -> Travel
-    requires { ⌜ Pascal (now table) × PointAt (n .0) L r R ⌝ }
-    ensures { λ t. ⌜ t .0 ≡ roundedAt (n .0) L r R ⌝ }
+// The rounded point at R of a curve of degree L whose numerator there, n, is over binomial(L, R)·1024^r.
+fn rounded(table: &[u32; 325], n: Words, L: usize, r: usize, R: usize) -> Travel
+    requires { ⌜ Pascal (now table) × PointAt (twoWords (n .high .0) (n .low)) L r R ⌝ }
+    ensures { λ t. ⌜ t .0 ≡ nearest (twoWords (n .high .0) (n .low)) (choose L R * 1024 ^ r) ⌝ }
 {
     let d = pascal::binomial(table, L, R);
-    units::travel_of(limbs::rounded(n, d, r))
+    units::travel_of(two_words::rounded(n, d, r))
 }
 
-// Writes the first `count` numerators, each put together from its two limbs, and the points, each rounded.
-fn write(
-    table: &[u32; 91],
+// Writes what stands at R: both words of its numerator, and its rounded point.
+fn write_place(
+    table: &[u32; 325],
     sums: &[i64],
-    r: usize,
     count: usize,
-    exact: &mut [i64],
+    r: usize,
+    R: usize,
+    high: &mut [i64],
+    low: &mut [u64],
     points: &mut [i32],
 )
-    requires { ⌜ Pascal (now table) × (0 < count) × (count ≤ length (now exact)) × (count ≤ length (now points)) × PointsAt (now sums) count r ⌝ }
-    ensures { λ _. ⌜ Written (now (sums .entry)) r count (now (exact .entry)) (now (points .entry)) (now (exact .exit)) (now (points .exit)) ⌝ }
+    requires { ⌜ Pascal (now table) × PointsAt (now sums) count r × (R < count) × Enough (arrays (now high) (now low) (now points)) count ⌝ }
+    ensures { λ _. ⌜ Put (now (sums .entry)) (count - 1) r R (arrays (now (high .entry)) (now (low .entry)) (now (points .entry))) (arrays (now (high .exit)) (now (low .exit)) (now (points .exit))) ⌝ }
 {
-    let L = count - 1;
+    let n = two_words::joined(sums, R);
+    put_high(high, R, n.high);
+    put_low(low, R, n.low);
+    put_point(points, R, rounded(table, n, count - 1, r, R));
+}
+
+// Writes the first `count` places of each array.
+fn write_all(
+    table: &[u32; 325],
+    sums: &[i64],
+    count: usize,
+    r: usize,
+    high: &mut [i64],
+    low: &mut [u64],
+    points: &mut [i32],
+)
+    requires { ⌜ Pascal (now table) × PointsAt (now sums) count r × Enough (arrays (now high) (now low) (now points)) count ⌝ }
+    ensures { λ _. ⌜ Wrote (now (sums .entry)) (count - 1) r count (arrays (now (high .entry)) (now (low .entry)) (now (points .entry))) (arrays (now (high .exit)) (now (low .exit)) (now (points .exit))) ⌝ }
+{
     let mut R = 0;
     while R < count {
-        let n = limbs::joined(sums, R);
-        put_exact(exact, R, n);
-        put_point(points, R, rounded(table, n, L, r, R));
+        write_place(table, sums, count, r, R, high, low, points);
         R += 1;
     }
 }
 
 // Composes a surface and a path, on a tilt sample of the given age. The answer is a number, a place and a count: 0, 0, L+1
-// where the request is accepted, and then the first L+1 places of both arrays are written; else the refusal's number and
-// place and count 0, and both arrays are as they were.
+// where the request is accepted, and then the first L+1 places of the three arrays are written; else the refusal's number and
+// place and count 0, and all three are as they were.
 pub fn compose(
     head: Head,
     age: Age,
     surface: &[i32],
     path: &[i32],
-    exact: &mut [i64],
+    high: &mut [i64],
+    low: &mut [u64],
     points: &mut [i32],
 ) -> Answer
-    ensures { λ a. ⌜ Composed (record { head = head; surface = now (surface .entry); path = now (path .entry) }) (age .0) (now (exact .entry)) (now (points .entry)) a (now (exact .exit)) (now (points .exit)) ⌝ }
+    ensures { λ a. ⌜ Composed (requestOf head (now (surface .entry)) (now (path .entry))) (age .0) (arrays (now (high .entry)) (now (low .entry)) (now (points .entry))) a (arrays (now (high .exit)) (now (low .exit)) (now (points .exit))) ⌝ }
 {
-    let answer = judge::judge(head, age, surface, path, exact.len(), points.len());
+    let rooms = Rooms {
+        high: high.len(),
+        low: low.len(),
+        points: points.len(),
+    };
+    let answer = judge::judge(head, age, surface, path, rooms);
     if answer.number != 0 {
         return answer;
     }
-    let count = answer.count;
     let table = pascal::table();
-    let mut all = [0i64; 26];
-    sums::numerators(&table, head, surface, path, &mut all);
+    let mut sums = [0i64; 50];
+    sums::numerators(&table, head, surface, path, &mut sums);
     let r = request::degree(head) as usize;
-    write(&table, &all, r, count, exact, points);
+    write_all(&table, &sums, answer.count, r, high, low, points);
     answer
 }

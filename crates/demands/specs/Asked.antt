@@ -10,7 +10,7 @@ use lib.ListN.{length, drop, length-append}
 use lib.Seq.{ext-getD}
 use borrow.Author.Tests.{le-ltb, eq-eqb}
 use Rattle.units.specs.Bounds.{stale}
-use Rattle.request.specs.Head.{mostPoints, surfaceCount, pathCount}
+use Rattle.request.specs.Head.{surfaceCount, pathCount}
 use Rattle.request.specs.Request.{Request}
 use Rattle.request.specs.Cascade.{first, decided}
 use Rattle.request.specs.Refusal.{notKind, notDegree, accepted, refusals, answer}
@@ -20,7 +20,7 @@ use Rattle.compose.proofs.Written.{below-at, below-length}
 use Rattle.wire.specs.Words.{wordEnd, wordBytes, wordAt, numberBytes, numberAt}
 use Rattle.wire.specs.Start.{start, lengthField, kindField, recordStart, recordOf}
 use Rattle.judgement.specs.Record.{agedStart, headIn, isAged, startIn, ageIn, pathStart, bodyEnd, requestIn, headBytes, kindOf, ageBytes, requestRecord}
-use Rattle.judgement.specs.Judgement.{notOfKind, notFrame, notBody, doorRefusals, composed, judged}
+use Rattle.judgement.specs.Judgement.{mostRooms, notOfKind, notFrame, notBody, doorRefusals, composed, judged}
 use Rattle.replies.specs.Parts.{AllShort}
 use Rattle.wire.proofs.Words.{numbers-length, number-read}
 
@@ -146,16 +146,16 @@ module _ (rq : Request) (age : Option ℕ) (ok : Askable rq) where
       let degrees : notDegree (headIn (requestRecord rq age)) ≡ false = rw (head-is rq age) (ok .degrees) in
       past _ _ _ (framed rq age) ∙ past _ _ _ kind ∙ past _ _ _ degrees
 
-  composer : answer rq (milliseconds age) mostPoints mostPoints
-      ≡ decided (first (drop 2 (refusals rq (milliseconds age) mostPoints mostPoints))) (accepted (rq .head))
+  composer : answer rq (milliseconds age) mostRooms
+      ≡ decided (first (drop 2 (refusals rq (milliseconds age) mostRooms))) (accepted (rq .head))
   unfolding answer refusals
   composer = past _ _ _ (ok .kind) ∙ past _ _ _ (ok .degrees)
 
-  by-age : Fits age → (b : Bool) → stale (milliseconds age) ≡ b → judged (requestRecord rq age) ≡ answer rq (milliseconds age) mostPoints mostPoints
+  by-age : Fits age → (b : Bool) → stale (milliseconds age) ≡ b → judged (requestRecord rq age) ≡ answer rq (milliseconds age) mostRooms
   unfolding doorRefusals refusals
   by-age m true o = door ∙ here _ _ _ (ap stale (age-is rq age m) ∙ o) ∙ sym (composer ∙ here _ _ _ o)
   by-age m false o =
       door ∙ past _ _ _ (ap stale (age-is rq age m) ∙ o) ∙ past _ _ _ body-fits ∙ end _ ∙ rw (read-again, age-is rq age m)
 
-  pub answered-alike : Fits age → judged (requestRecord rq age) ≡ answer rq (milliseconds age) mostPoints mostPoints
+  pub answered-alike : Fits age → judged (requestRecord rq age) ≡ answer rq (milliseconds age) mostRooms
   answered-alike m = by-age m (stale (milliseconds age)) refl

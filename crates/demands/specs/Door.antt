@@ -13,6 +13,7 @@ use borrow.Author.Tests.{le-ltb, eq-eqb}
 use Rattle.whole.proofs.Determined.{Determined}
 use Rattle.request.proofs.Forms.{longest-most}
 use Rattle.request.specs.declared.Answer.{Answer}
+use Rattle.request.specs.declared.Rooms.{Rooms}
 use Rattle.request.specs.Head.{mostPoints, longest}
 use Rattle.request.specs.Request.{Request}
 use Rattle.request.specs.Cascade.{first, refused, decided}
@@ -23,7 +24,7 @@ use Rattle.wire.specs.Words.{Short, wordAt, wordBytes, numberBytes, numberAt}
 use Rattle.wire.specs.Start.{start, lengthField, kindField, recordStart, recordOf}
 use Rattle.replies.specs.Reply.{replyKind, answerBytes, replyRecord, room, over}
 use Rattle.judgement.specs.Record.{headIn, ageIn, requestIn}
-use Rattle.judgement.specs.Judgement.{judged}
+use Rattle.judgement.specs.Judgement.{mostRooms, judged}
 use Rattle.door.specs.Contract.{pointsOf, replyOf, Answered}
 use Rattle.wire.proofs.Words.{number-read}
 use Rattle.replies.proofs.Over.{over-length}
@@ -121,14 +122,14 @@ other : (number : ℕ) → T (apart number) → Never number
 other number t = record { surface = λ e. subst (λ n. T (apart n)) e t; path = λ e. subst (λ n. T (apart n)) e t; room = λ e. subst (λ n. T (apart n)) e t }
 
 -- the table of the composer behind its first six tests
-last-three : (rq : Request) (age e p : ℕ) → Never (decided (first (drop 6 (refusals rq age e p))) (accepted (rq .head)) .number)
+last-three : (rq : Request) (age : ℕ) (rooms : Rooms) → Never (decided (first (drop 6 (refusals rq age rooms))) (accepted (rq .head)) .number)
 unfolding refusals refused accepted Each
-last-three rq age e p = decided-is (λ a. Never (a .number)) _ (accepted (rq .head)) (other 6 tt, (other 7 tt, (other 8 tt, tt))) (λ n. other 0 tt)
+last-three rq age rooms = decided-is (λ a. Never (a .number)) _ (accepted (rq .head)) (other 6 tt, (other 7 tt, (other 8 tt, tt))) (λ n. other 0 tt)
 
 -- where no test of the door holds, only those three are left
 last-word : (request : List ℕ) → Passed request
-    → answer (requestIn request) (ageIn request) mostPoints mostPoints
-    ≡ decided (first (drop 6 (refusals (requestIn request) (ageIn request) mostPoints mostPoints))) (accepted (requestIn request .head))
+    → answer (requestIn request) (ageIn request) mostRooms
+    ≡ decided (first (drop 6 (refusals (requestIn request) (ageIn request) mostRooms))) (accepted (requestIn request .head))
 unfolding requestIn answer refusals notSurface notPath notRoom
 last-word request ok =
     let L = longest-most (headIn request) (ok .degrees) in
@@ -139,5 +140,5 @@ last-word request ok =
 pub never : (request : List ℕ) → Never (judged request .number)
 unfolding refused
 never request =
-    let three = last-three (requestIn request) (ageIn request) mostPoints mostPoints in
+    let three = last-three (requestIn request) (ageIn request) mostRooms in
     judged-is request (λ a. Never (a .number)) (other 9 tt) (other 1 tt) (other 2 tt) (other 10 tt) (λ ok. rw (last-word request ok) three)

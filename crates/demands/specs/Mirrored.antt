@@ -5,7 +5,6 @@ use mathlib.Core.List.{map}
 use mathlib.Core.Option.{Option}
 use Prim.Native.Nat.{ℕ, zero, suc}
 use lib.IntN.{ℤ, negℤ}
-use Rattle.request.specs.Head.{mostPoints}
 use Rattle.request.specs.Request.{Request}
 use Rattle.net.specs.Composed.{point}
 use Rattle.net.specs.Mirror.{mirrored}
@@ -13,7 +12,7 @@ use Rattle.net.proofs.Mirror.{answer-mirrored, point-mirrored}
 use Rattle.compose.specs.Afterwards.{listBelow}
 use Rattle.replies.specs.Reply.{replyRecord}
 use Rattle.judgement.specs.Record.{requestRecord}
-use Rattle.judgement.specs.Judgement.{judged}
+use Rattle.judgement.specs.Judgement.{mostRooms, judged}
 use Rattle.door.specs.Contract.{pointsOf, replyOf}
 use Rattle.demands.specs.Asked.{Fits, milliseconds, Askable, read-again, answered-alike}
 
@@ -26,7 +25,7 @@ module _ (rq : Request) (age : Option ℕ) (fits : Fits age) (ok : Askable rq) (
   pub judged-mirrored : judged (requestRecord (mirrored rq) age) ≡ judged (requestRecord rq age)
   judged-mirrored =
       rw (answered-alike (mirrored rq) age ok′ fits, answered-alike rq age ok fits)
-      (answer-mirrored rq (milliseconds age) mostPoints mostPoints)
+      (answer-mirrored rq (milliseconds age) mostRooms)
 
   pub points-mirrored : pointsOf (requestRecord (mirrored rq) age) ≡ map negℤ (pointsOf (requestRecord rq age))
   unfolding pointsOf

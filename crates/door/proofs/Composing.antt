@@ -3,19 +3,19 @@ use mathlib.Core.Path.{_≡_, sym, _∙_}
 use mathlib.Core.List.{List}
 use Prim.Native.Nat.{ℕ, _+_, _*_}
 use lib.IntN.{ℤ}
-use lib.ListN.{length, take}
+use lib.ListN.{take}
 use lib.Seq.{take-at}
 use borrow.Author.Tests.{eqb-true, not-false}
 use Rattle.request.specs.declared.Answer.{Answer}
 use Rattle.request.specs.declared.Head.{Head}
-use Rattle.request.specs.Head.{mostPoints, surfaceCount, pathCount}
+use Rattle.request.specs.Head.{surfaceCount, pathCount}
 use Rattle.request.specs.Request.{Request}
-use Rattle.compose.specs.Afterwards.{listBelow, afterwards, pointsAfter}
+use Rattle.compose.specs.Afterwards.{listBelow, afterwards, Arrays, roomsOf, pointsAfter}
 use Rattle.compose.specs.Contract.{Composed}
 use Rattle.compose.proofs.Written.{below-length, afterwards-none}
 use Rattle.wire.specs.Words.{numberAt}
 use Rattle.judgement.specs.Record.{ageIn, pathStart, requestIn}
-use Rattle.judgement.specs.Judgement.{notBody, tested, composed, judged}
+use Rattle.judgement.specs.Judgement.{notBody, tested, mostRooms, composed, judged}
 use Rattle.judgement.specs.Opening.{Read}
 use Rattle.judgement.proofs.Order.{passed, table-last, table-none}
 use Rattle.door.specs.Given.{Readable, Given}
@@ -37,13 +37,13 @@ request-read request from age head s p surface path surface′ path′ r es ep f
     rw (f, g, first-places s _ surface, first-places p _ path, es, ep, r .from-is, r .head-is)
 
 -- what it answers and leaves in the points is what the door answers and sends
-pub composed-given : (request : List ℕ) (rq : Request) (age : ℕ) (exact points exact′ points′ : List ℤ) (a : Answer)
-    → rq ≡ requestIn request → age ≡ ageIn request → length exact ≡ mostPoints → length points ≡ mostPoints
-    → Composed rq age exact points a exact′ points′ → Given request (composed request) points a points′
+pub composed-given : (request : List ℕ) (rq : Request) (age : ℕ) (lent left : Arrays) (a : Answer)
+    → rq ≡ requestIn request → age ≡ ageIn request → roomsOf lent ≡ mostRooms
+    → Composed rq age lent a left → Given request (composed request) (lent .points) a (left .points)
 unfolding pointsAfter
-composed-given request rq age exact points exact′ points′ a e o l m k = record {
-  answered = rw (← e, ← o) (rw (l, m) at (k .answered));
-  points-is = rw (← e, ← o) (rw (l, m) at (k .points-is));
+composed-given request rq age lent left a e o l k = record {
+  answered = rw (← e, ← o) (rw l at (k .answered));
+  points-is = rw (← e, ← o) (rw l at (k .points-is));
 }
 
 -- a refusal by the door's own table leaves the points

@@ -16,7 +16,7 @@ use Rattle.judgement.specs.Record.{headIn, isAged, startIn, ageIn, pathStart, b
 use Rattle.judgement.specs.Judgement.{notFrame, doorRefusals, judged}
 use Rattle.door.specs.Contract.{pointsOf, replyOf, countAnswered, replyAfter, Answered}
 
--- "Under 34 bytes of reply room nothing is written and 0 is answered", also where this reply, FRAME's of eight bytes, would
+-- "Under [58] bytes of reply room nothing is written and 0 is answered", also where this reply, FRAME's of eight bytes, would
 -- fit; with just that room it is written, and "the slice beyond the reply stays"
 pub short-of-room : (countAnswered [] (replicate (room - 1) 7) ≡ 0) × (replyAfter [] (replicate (room - 1) 7) ≡ replicate (room - 1) 7)
 unfolding wordBytes wordAt numberBytes lengthField recordStart recordOf headIn isAged startIn ageIn pathStart bodyEnd requestIn

@@ -8,7 +8,8 @@ use native.Mathlib.Omega.{arith}
 use lib.IntN.{ℤ, pos, negsuc, natAbs}
 use lib.ListN.{length, getD, take}
 use Rattle.request.specs.declared.Answer.{Answer}
-use Rattle.request.specs.Head.{mostPoints, mostPathNumbers, surfaceCount, pathCount}
+use Rattle.request.specs.declared.Rooms.{Rooms}
+use Rattle.request.specs.Head.{mostPathNumbers, surfaceCount, pathCount}
 use Rattle.request.specs.Request.{Request}
 use Rattle.request.specs.Cascade.{refused}
 use Rattle.request.specs.Refusal.{notDegree, accepted, refusals, answer}
@@ -23,7 +24,7 @@ use Rattle.compose.proofs.Entry.{composable}
 use Rattle.wire.specs.Words.{Short}
 use Rattle.replies.specs.Parts.{InBytes, Sendable}
 use Rattle.judgement.specs.Record.{headIn, ageIn, requestIn}
-use Rattle.judgement.specs.Judgement.{composed, judged}
+use Rattle.judgement.specs.Judgement.{mostRooms, composed, judged}
 use Rattle.judgement.proofs.Sizes.{surface-most, path-most}
 use Rattle.judgement.proofs.Order.{Passed, judged-is}
 use Rattle.door.specs.Contract.{pointsOf}
@@ -40,11 +41,11 @@ module _ (rq : Request) (d : notDegree (rq .head) ≡ false) (s : length (rq .su
   unfolding accepted
   accepted-fits = record { number-fits = omega arith; place-fits = omega arith; few = omega (arith, longest-most (rq .head) d) }
 
-  composer-fits : (age e q : ℕ) → InBytes (answer rq age e q)
+  composer-fits : (age : ℕ) (rooms : Rooms) → InBytes (answer rq age rooms)
   unfolding answer refusals Each
-  composer-fits age e q =
+  composer-fits age rooms =
       let at-0 : (number : ℕ) → number < 256 → InBytes (refused number 0) = λ number m. refusal-fits number 0 m (omega arith) in
-      decided-is InBytes (refusals rq age e q) (accepted (rq .head)) (
+      decided-is InBytes (refusals rq age rooms) (accepted (rq .head)) (
         at-0 1 (omega arith),
         (
           at-0 2 (omega arith),
@@ -86,7 +87,7 @@ passed-fits request ok =
     composer-fits (requestIn request) (ok .degrees)
     (omega (arith, surface-read request, surface-most (headIn request) (ok .degrees)))
     (omega (arith, path-read request, path-most (headIn request) (ok .degrees)))
-    (ageIn request) mostPoints mostPoints
+    (ageIn request) mostRooms
 
 pub judged-fits : (request : List ℕ) → InBytes (judged request)
 judged-fits request =
@@ -95,15 +96,15 @@ judged-fits request =
     (passed-fits request)
 
 -- ---- the points
-composer-point : (rq : Request) (age e q R : ℕ) → R < answer rq age e q .count → natAbs (point rq R) ≤ 4096
+composer-point : (rq : Request) (age : ℕ) (rooms : Rooms) (R : ℕ) → R < answer rq age rooms .count → natAbs (point rq R) ≤ 4096
 unfolding accepted
-composer-point rq age e q R m = go (ℕ-discrete (answer rq age e q .number) 0)
+composer-point rq age rooms R m = go (ℕ-discrete (answer rq age rooms .number) 0)
   where
-    go : Dec (answer rq age e q .number ≡ 0) → natAbs (point rq R) ≤ 4096
+    go : Dec (answer rq age rooms .number ≡ 0) → natAbs (point rq R) ≤ 4096
     go (yes z) =
-        let f = accepts rq age e q z in
-        point-size rq (composable rq age e q f) R (omega (arith, ap (λ (a : Answer). a .count) (f .answered)))
-    go (no n) = absurd (omega (arith, refusal-empty rq age e q n))
+        let f = accepts rq age rooms z in
+        point-size rq (composable rq age rooms f) R (omega (arith, ap (λ (a : Answer). a .count) (f .answered)))
+    go (no n) = absurd (omega (arith, refusal-empty rq age rooms n))
 
 -- no point is above the greatest travel
 pub point-most : (request : List ℕ) (R : ℕ) → R < judged request .count → natAbs (point (requestIn request) R) ≤ 4096
@@ -111,7 +112,7 @@ unfolding refused
 point-most request R =
     judged-is request (λ a. R < a .count → natAbs (point (requestIn request) R) ≤ 4096)
     (λ m. absurd (omega arith)) (λ m. absurd (omega arith)) (λ m. absurd (omega arith)) (λ m. absurd (omega arith))
-    (λ ok. composer-point (requestIn request) (ageIn request) mostPoints mostPoints R)
+    (λ ok. composer-point (requestIn request) (ageIn request) mostRooms R)
 
 short : (z : ℤ) → natAbs z ≤ 4096 → Short z
 short (pos n) m = omega arith

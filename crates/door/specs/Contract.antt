@@ -21,7 +21,7 @@ pointsOf request = listBelow (judged request .count) (point (requestIn request))
 unfoldable pub replyOf : List ℕ → List ℕ
 replyOf request = replyRecord (judged request) (pointsOf request)
 
--- "Under 34 bytes of reply room nothing is written and 0 is answered; otherwise the reply's byte count is answered"
+-- "Under [58] bytes of reply room nothing is written and 0 is answered; otherwise the reply's byte count is answered"
 unfoldable pub countAnswered : List ℕ → List ℕ → ℕ
 countAnswered request reply = cond (ltb (length reply) room) 0 (length (replyOf request))
 

@@ -46,7 +46,8 @@ fn compose_in(request: &[u8], from: usize, head: Head, age: Age, points: &mut [i
     let path_count = request::path_count(head);
     let mut surface = [0i32; MOST_VALUES];
     let mut path = [0i32; request::MOST_PATH_NUMBERS];
-    let mut exact = [0i64; request::MOST_POINTS];
+    let mut high = [0i64; request::MOST_POINTS];
+    let mut low = [0u64; request::MOST_POINTS];
     read_numbers(request, from, surface_count, &mut surface);
     read_numbers(request, from + 2 * surface_count, path_count, &mut path);
     compose::compose(
@@ -54,7 +55,8 @@ fn compose_in(request: &[u8], from: usize, head: Head, age: Age, points: &mut [i
         age,
         &surface[..surface_count],
         &path[..path_count],
-        &mut exact,
+        &mut high,
+        &mut low,
         points,
     )
 }

@@ -3,33 +3,34 @@
 use mathlib.Core.Path.{_≡_}
 use mathlib.Core.List.{List}
 use Prim.Native.Nat.{ℕ, _≤_, _<_}
-use lib.IntN.{ℤ}
 use lib.ListN.{length, set}
 use borrow.Author.Tests.{lt-ltb, le-ltb}
 use Rattle.request.specs.declared.Answer.{Answer}
 use Rattle.request.specs.Request.{Request}
+use Rattle.compose.specs.Afterwards.{Arrays}
 use Rattle.compose.specs.Contract.{Composed}
 use Rattle.fives.specs.declared.Five.{Five}
 use Rattle.tally.specs.Read.{replayed}
 use Rattle.exports.specs.Exported.{withAnswer, Exported}
 use Rattle.exports.specs.Replayed.{withFive, Replayed}
 
-module _ (rq : Request) (age : ℕ) (exact points : List ℤ) (words : List ℕ) where
-  pub untouched : length words < 3 → Exported rq age exact points words 1 exact points words
+module _ (rq : Request) (age : ℕ) (lent : Arrays) (words : List ℕ) where
+  pub untouched : length words < 3 → Exported rq age lent words 1 lent words
   untouched short =
       let t = lt-ltb _ _ short in
-      record { code-is = rw t; exact-is = rw t; points-is = rw t; words-is = rw t }
+      record { code-is = rw t; high-is = rw t; low-is = rw t; points-is = rw t; words-is = rw t }
 
-  pub answered : (a : Answer) (exact′ points′ : List ℤ) (number : ℕ) (one two three : List ℕ) → 3 ≤ length words
-      → Composed rq age exact points a exact′ points′ → number ≡ a .number
+  pub answered : (a : Answer) (left : Arrays) (number : ℕ) (one two three : List ℕ) → 3 ≤ length words
+      → Composed rq age lent a left → number ≡ a .number
       → one ≡ set words 0 number → two ≡ set one 1 (a .place) → three ≡ set two 2 (a .count)
-      → Exported rq age exact points words 0 exact′ points′ three
+      → Exported rq age lent words 0 left three
   unfolding withAnswer
-  answered a exact′ points′ number one two three enough composed n first second third =
+  answered a left number one two three enough composed n first second third =
       let t = le-ltb _ _ enough in
       record {
         code-is = rw t;
-        exact-is = rw t (composed .exact-is);
+        high-is = rw t (composed .high-is);
+        low-is = rw t (composed .low-is);
         points-is = rw t (composed .points-is);
         words-is = rw (t, ← composed .answered, third, second, first, n);
       }

@@ -2,24 +2,23 @@
 -- one of them allows are equal. Assumes nothing.
 use mathlib.Core.List.{List}
 use Prim.Native.Nat.{ℕ}
-use lib.IntN.{ℤ}
 use Rattle.whole.proofs.Determined.{Determined}
 use Rattle.request.specs.Request.{Request}
+use Rattle.compose.specs.Afterwards.{Arrays, arrays}
 use Rattle.exports.specs.Exported.{Exported}
 use Rattle.exports.specs.Replayed.{Replayed}
 
--- what a call leaves: its code, both arrays and the words
+-- what a call leaves: its code, the three arrays and the words
 pub record Left : Type 0 where
   pub code : ℕ
-  pub exact : List ℤ
-  pub points : List ℤ
+  pub left : Arrays
   pub words : List ℕ
 
-pub composed-determined : (rq : Request) (age : ℕ) (exact points : List ℤ) (words : List ℕ)
-    → Determined (λ (l : Left). Exported rq age exact points words (l .code) (l .exact) (l .points) (l .words))
-composed-determined rq age exact points words = record {
-  value = record { code = _; exact = _; points = _; words = _ };
-  only = λ l e t. record { code = e .code-is t; exact = e .exact-is t; points = e .points-is t; words = e .words-is t };
+pub composed-determined : (rq : Request) (age : ℕ) (lent : Arrays) (words : List ℕ)
+    → Determined (λ (l : Left). Exported rq age lent words (l .code) (l .left) (l .words))
+composed-determined rq age lent words = record {
+  value = record { code = _; left = arrays _ _ _; words = _ };
+  only = λ l e t. record { code = e .code-is t; left = arrays (e .high-is t) (e .low-is t) (e .points-is t); words = e .words-is t };
 }
 
 -- what a replay leaves: its code and the words

@@ -9,7 +9,7 @@ use lib.ListN.{length, set}
 use Rattle.request.specs.declared.Answer.{Answer}
 use Rattle.request.specs.Request.{Request}
 use Rattle.request.specs.Refusal.{answer}
-use Rattle.compose.specs.Afterwards.{exactAfter, pointsAfter}
+use Rattle.compose.specs.Afterwards.{Arrays, roomsOf, highAfter, lowAfter, pointsAfter}
 
 -- the request that a call's form, degrees, N, surface and path are
 abbrev pub requestOf : ℕ → ℕ → ℕ → ℕ → List ℤ → List ℤ → Request
@@ -20,9 +20,10 @@ requestOf form first second N surface path =
 unfoldable pub withAnswer : Answer → List ℕ → List ℕ
 withAnswer a words = set (set (set words 0 (a .number)) 1 (a .place)) 2 (a .count)
 
--- exact, points and words are the arrays as they were lent; where there is no room for the answer nothing is written
-pub record Exported (rq : Request) (age : ℕ) (exact points : List ℤ) (words : List ℕ) (code : ℕ) (exact′ points′ : List ℤ) (words′ : List ℕ) : Type 0 where
+-- lent and words are the arrays as they were lent; where there is no room for the answer nothing is written
+pub record Exported (rq : Request) (age : ℕ) (lent : Arrays) (words : List ℕ) (code : ℕ) (left : Arrays) (words′ : List ℕ) : Type 0 where
   pub code-is : code ≡ cond (ltb (length words) 3) 1 0
-  pub exact-is : exact′ ≡ cond (ltb (length words) 3) exact (exactAfter rq age exact points)
-  pub points-is : points′ ≡ cond (ltb (length words) 3) points (pointsAfter rq age exact points)
-  pub words-is : words′ ≡ cond (ltb (length words) 3) words (withAnswer (answer rq age (length exact) (length points)) words)
+  pub high-is : left .high ≡ cond (ltb (length words) 3) (lent .high) (highAfter rq age lent)
+  pub low-is : left .low ≡ cond (ltb (length words) 3) (lent .low) (lowAfter rq age lent)
+  pub points-is : left .points ≡ cond (ltb (length words) 3) (lent .points) (pointsAfter rq age lent)
+  pub words-is : words′ ≡ cond (ltb (length words) 3) words (withAnswer (answer rq age (roomsOf lent)) words)

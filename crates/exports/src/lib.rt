@@ -6,6 +6,7 @@ pub mod replay;
 ghost use mathlib.Core.Path.{_≡_};
 ghost use Prim.Native.Nat.{_<_};
 ghost use lib.ListN.{length, set};
+ghost use Rattle.compose.specs.Afterwards.{arrays};
 ghost use Rattle.exports.specs.Exported.{requestOf, Exported};
 use request::Head;
 use units::Age;
@@ -35,11 +36,12 @@ pub extern "C" fn lean_compose(
     age: u16,
     surface: &[i32],
     path: &[i32],
-    exact: &mut [i64],
+    high: &mut [i64],
+    low: &mut [u64],
     points: &mut [i32],
     words: &mut [u64],
 ) -> u32
-    ensures { λ code. ⌜ Exported (requestOf form first second N (now (surface .entry)) (now (path .entry))) age (now (exact .entry)) (now (points .entry)) (now (words .entry)) code (now (exact .exit)) (now (points .exit)) (now (words .exit)) ⌝ }
+    ensures { λ code. ⌜ Exported (requestOf form first second N (now (surface .entry)) (now (path .entry))) age (arrays (now (high .entry)) (now (low .entry)) (now (points .entry))) (now (words .entry)) code (arrays (now (high .exit)) (now (low .exit)) (now (points .exit))) (now (words .exit)) ⌝ }
 {
     if words.len() < 3 {
         return 1;
@@ -54,7 +56,8 @@ pub extern "C" fn lean_compose(
         Age(age),
         surface,
         path,
-        exact,
+        high,
+        low,
         points,
     );
     put(words, 0, wide(answer.number));

@@ -31,7 +31,8 @@ formed-none : (K l : ℕ) → formed {A = Term} K [] (suc l) ≡ 0
 unfolding formed
 formed-none K l = refl
 
-pub formed-turn : (K : ℕ) (T : List Term) (l c : ℕ) → c < length T → formed K (drop c T) (suc l) ≡ size K l + formed K (drop c T) l + formed K (drop (suc c) T) (suc l)
+pub formed-turn : (K : ℕ) (T : List Term) (l c : ℕ) → c < length T
+    → formed K (drop c T) (suc l) ≡ size K l + formed K (drop c T) l + formed K (drop (suc c) T) (suc l)
 formed-turn K T l c h = rw (drop-cons T c noTerm h) (formed-cons K (termAt T c) (drop (suc c) T) l)
 
 size-zero : (K : ℕ) → size K 0 ≡ 1

@@ -48,7 +48,13 @@ module _ (t : List ℕ) (count outer second from begun s weight : ℕ) (sums : L
   pub settle-done : (p : Net) (v : ℤ) → v ≡ p 0 0 → (after : List ℤ) → Gained sums after (only s (pos weight *ℤ v)) weight
       → Gained sums after (owing t count outer second 0 from begun s weight p) (duty t count outer second 0 from begun weight)
   settle-done p v e after gained =
-      rw (later-read t count outer second 0 none, later-rest t count outer second 0 none, later-group t count outer second 0 none, later-of t count outer second 0 none)
+      rw (
+        later-read t count outer second 0 none,
+        later-rest t count outer second 0 none,
+        later-group t count outer second 0 none,
+        later-of t count
+            outer second 0 none,
+      )
       (settled (drop from (termsOf t count 3)) weight begun s p v sums after e gained)
 
 -- ---- the loop, where l arguments are left after this one
@@ -62,7 +68,8 @@ module _ (t : List ℕ) (count outer second left from begun s weight : ℕ) (sum
   module _ (p : Net) where
     abbrev pub Loop : ℕ → ℕ → ℕ → ℕ → List ℤ → Type 0
     Loop closed c b w now =
-        Sofar (readAt t count second left) (restAt t count second left) (termsOf t count (groupAt outer second left)) (ofGroup second left) from begun weight s p sums closed c b w now
+        Sofar (readAt t count second left) (restAt t count second left) (termsOf t count (groupAt outer second left)) (ofGroup second left) from begun
+        weight s p sums closed c b w now
 
     pub start : (here ways : ℕ) → here ≡ ofGroup second left → ways ≡ choose begun here → Loop (weight * ways) from begun weight sums
     start here ways he we =
@@ -74,7 +81,8 @@ module _ (t : List ℕ) (count outer second left from begun s weight : ℕ) (sum
       fewer = omega (arith, of-some t count outer second left (omega arith))
 
       pub all-done : count ≤ c → Gained sums now (owing t count outer second left from begun s weight p) (duty t count outer second left from begun weight)
-      all-done h = Turning.all-done (readAt t count second left) s p t count (ready .most) _ _ _ from begun weight sums (ready .able) _ fewer closed c b w now f h
+      all-done h = Turning.all-done (readAt t count second left) s p t count (ready .most) _ _ _ from begun weight sums (ready .able) _ fewer closed c
+          b w now f h
 
       module _ (h : c < count) (k u : ℕ) (ke : k ≡ keyAt t c) (ue : u ≡ weightAt t c) where
         able : Able t count (ready .most) (groupAt outer second left) (restAt t count second left) (ofGroup second left - 1) c b (w * u) now
@@ -103,13 +111,15 @@ module _ (t : List ℕ) (count outer second left from begun s weight : ℕ) (sum
 
           -- what the next argument added, from a net that owes what this argument's step owes
           pub one-more : (q : Net)
-              → ((a b x y R : ℕ) → owing t count outer second l a b x y q R ≡ owing t count outer second l a b x y (step (termOf t (groupAt outer second (suc l)) c .argument) p) R)
+              → ((a b x y R : ℕ) → owing t count outer second l a b x y q R ≡ owing t count outer second l a b x y
+              (step (termOf t (groupAt outer second (suc l)) c .argument) p) R)
               → (here : ℕ) → here ≡ ofGroup second left → (then : List ℤ)
               → Gained now then (owing t count outer second l start began (s + k) (w * u) q) (duty t count outer second l start began (w * u))
               → Loop closed (c + 1) here closed then
           one-more q same here he then gained =
               rw he
-              (Turning.one-more (readAt t count second left) s p t count (ready .most) _ _ _ from begun weight sums (ready .able) _ fewer closed c b w now f h then
+              (Turning.one-more (readAt t count second left) s p t count (ready .most) _ _ _ from begun weight sums (ready .able) _ fewer closed c b w
+              now f h then
               (rw (← ke, ← ue, e) (gained-as
               (λ R. bridge t count outer second l turn te c b (s + k) (w * u) (step (termOf t (groupAt outer second (suc l)) c .argument) p) R)
               (bridge-due t count outer second l turn te c b (w * u))
@@ -125,9 +135,11 @@ one-of t count outer second = go (decLt second 1)
 
 pub record Ending (t : List ℕ) (count outer second from begun s weight : ℕ) (sums : List ℤ) (p : Net) (closed c w : ℕ) (now : List ℤ) : Type 0 where
   pub since : ℕ
-  pub sofar : Sofar (readAt t count second 1) (restAt t count second 1) (termsOf t count (groupAt outer second 1)) (ofGroup second 1) from begun weight s p sums closed c since w now
+  pub sofar : Sofar (readAt t count second 1) (restAt t count second 1) (termsOf t count (groupAt outer second 1)) (ofGroup second 1) from begun
+      weight s p sums closed c since w now
 
-module _ (t : List ℕ) (count outer second from begun s weight : ℕ) (sums : List ℤ) (ready : Ready t count outer second 1 from begun s weight sums) (p : Net) where
+module _ (t : List ℕ) (count outer second from begun s weight : ℕ) (sums : List ℤ) (ready : Ready t count outer second 1 from begun s weight sums)
+    (p : Net) where
   pub last-start : Ending t count outer second from begun s weight sums p (weight * begun) from weight sums
   last-start = record {
     since = begun;
@@ -146,13 +158,15 @@ module _ (t : List ℕ) (count outer second from begun s weight : ℕ) (sums : L
       anew = eqb 0 second
 
       settling : Ready t count outer second 0 (cond anew 0 c) (cond anew second (f .since)) (s + k) (w * u) now
-      settling = next-ready t count outer second 1 from begun s weight sums ready p 0 refl closed c (f .since) w now (f .sofar) h k u ke ue anew refl _ _ refl refl
+      settling = next-ready t count outer second 1 from begun s weight sums ready p 0 refl closed c (f .since) w now (f .sofar) h k u ke ue anew refl
+          _ _ refl refl
 
       pub last-asks : (2 * (s + k) + 1 < length now) × Room now (w * u)
       last-asks = settle-asks t count outer second (cond anew 0 c) (cond anew second (f .since)) (s + k) (w * u) now settling
 
       pub last-more : (q : Net)
-          → ((a b x y R : ℕ) → owing t count outer second 0 a b x y q R ≡ owing t count outer second 0 a b x y (step (termOf t (groupAt outer second 1) c .argument) p) R)
+          → ((a b x y R : ℕ) → owing t count outer second 0 a b x y q R ≡ owing t count outer second 0 a b x y
+          (step (termOf t (groupAt outer second 1) c .argument) p) R)
           → (v : ℤ) → v ≡ q 0 0 → (then : List ℤ) → Gained now then (only (s + k) (pos (w * u) *ℤ v)) (w * u)
           → Ending t count outer second from begun s weight sums p closed (c + 1) closed then
       last-more q same v e then gained = record {

@@ -119,7 +119,9 @@ module _ (t : List ℕ) (count outer second l : ℕ) where
       ≡ owed (readAt t count second (suc l)) (drop c (termsOf t count (groupAt outer second (suc l)))) w (ofGroup second (suc l) - 1) b s p R
   bridge turn e c b s w p R = go (ℕ-discrete l second)
     where
-      anew : (w s : ℕ) → owed leaf (termsOf t count 3) w second second s p R ≡ owed (λ R. walk (termsOf t count 3) second second (leaf R)) (drop c (termsOf t count outer)) w 0 b s p R
+      anew : (w s : ℕ)
+          → owed leaf (termsOf t count 3) w second second s p R ≡ owed (λ R. walk (termsOf t count 3) second second (leaf R))
+          (drop c (termsOf t count outer)) w 0 b s p R
       anew w s = owed-is w s ∙ sym (owed-zero (λ R. walk (termsOf t count 3) second second (leaf R)) (drop c (termsOf t count outer)) w b s p R)
         where
           owed-is : (w s : ℕ) → owed leaf (termsOf t count 3) w second second s p R ≡ pos w *ℤ walk (termsOf t count 3) second second (leaf R) s p
@@ -169,7 +171,8 @@ module _ (t : List ℕ) (count outer second l : ℕ) where
             d,
             i,
           )
-          (Turn.due-budget 1 (termsOf t count 3) w second second ∙ sym (due-zero (budget (termsOf t count 3) second second 1) (drop c (termsOf t count outer)) w b))
+          (Turn.due-budget 1 (termsOf t count 3) w second second ∙ sym (due-zero (budget (termsOf t count 3) second second 1)
+          (drop c (termsOf t count outer)) w b))
       go (no n) = rw (e, ne-eqb l second n, same-rest n, same-group n, same-of n)
 
   pub next-able : (turn : Bool) → turn ≡ eqb l second → second ≤ 4 → (most c b w : ℕ) (now : List ℤ)

@@ -29,10 +29,12 @@ all-of t count left h = rw (first-of t count 0 0 left h) (omega arith)
 pub triangle-reads : (t : List ℕ) (count left from begun s weight : ℕ) (p q : Net) → Agree left p q
     → (R : ℕ) → owing t count 0 0 left from begun s weight p R ≡ owing t count 0 0 left from begun s weight q R
 triangle-reads t count left from begun s weight p q h =
-    owed-reads (readAt t count 0 left) (left - ofGroup 0 left) (read-reads t count 0 0 left) (drop from (termsOf t count (groupAt 0 0 left))) weight (ofGroup 0 left) begun s p q
+    owed-reads (readAt t count 0 left) (left - ofGroup 0 left) (read-reads t count 0 0 left) (drop from (termsOf t count (groupAt 0 0 left))) weight
+    (ofGroup 0 left) begun s p q
     (λ i j m. h i j (omega (arith, of-most t count 0 0 left)))
 
-module _ (t : List ℕ) (count l c : ℕ) (p q : List ℤ) (x y : ℕ) (few : l ≤ 3) (xe : x ≡ shareAt t c 2) (ye : y ≡ shareAt t c 3) (low : Lowered p x y (suc l) q) where
+module _ (t : List ℕ) (count l c : ℕ) (p q : List ℤ) (x y : ℕ) (few : l ≤ 3) (xe : x ≡ shareAt t c 2) (ye : y ≡ shareAt t c 3)
+    (low : Lowered p x y (suc l) q) where
   agrees : Agree l (held q) (step (termOf t (groupAt 0 0 (suc l)) c .argument) (held p))
   agrees i j m =
       rw (first-group t count 0 0 (suc l) (omega arith), argument-xyz t c)

@@ -60,13 +60,15 @@ term-key t g c = refl
 
 -- ---- what is owed
 module _ (F : ℕ → Reading) where
-  pub owed-reads : (k : ℕ) → Reads F k → (T : List Term) (w left begun s : ℕ) (p q : Net) → Agree (left + k) p q → (R : ℕ) → owed F T w left begun s p R ≡ owed F T w left begun s q R
+  pub owed-reads : (k : ℕ) → Reads F k → (T : List Term) (w left begun s : ℕ) (p q : Net) → Agree (left + k) p q → (R : ℕ)
+      → owed F T w left begun s p R ≡ owed F T w left begun s q R
   unfolding owed
   owed-reads k r T w left begun s p q e R = ap (λ x. pos w *ℤ x) (walk-reads F k r T left begun R s p q e)
 
   pub owed-turn : (T : List Term) (l s : ℕ) (p : Net) (c b w : ℕ) → c < length T → (R : ℕ)
       → owed F (drop c T) w (suc l) b s p R
-      ≡ owed F (drop c T) (w * termAt T c .weight) l b (s + termAt T c .key) (step (termAt T c .argument) p) R ⊕ owed F (drop (suc c) T) (w * choose b (suc l)) (suc l) (suc l) s p R
+      ≡ owed F (drop c T) (w * termAt T c .weight) l b (s + termAt T c .key) (step (termAt T c .argument) p) R ⊕ owed F (drop (suc c) T)
+      (w * choose b (suc l)) (suc l) (suc l) s p R
   unfolding owed _⊗_
   owed-turn T l s p c b w h R = weighed-turn T l (F R) s p c b w h
 
@@ -121,17 +123,21 @@ only-leaf s w R p = go (ℕ-discrete R s)
 
 pub settled : (T : List Term) (w b s : ℕ) (p : Net) (v : ℤ) (out after : List ℤ) → v ≡ p 0 0 → Gained out after (only s (pos w *ℤ v)) w
     → Gained out after (owed leaf T w 0 b s p) (due 1 T w 0 b)
-settled T w b s p v out after e = gained-as (λ R. ap (λ v. only s (pos w *ℤ v) R) e ∙ only-leaf s w R p ∙ sym (owed-zero leaf T w b s p R)) (sym (due-zero 1 T w b ∙ mul-one w))
+settled T w b s p v out after e = gained-as (λ R. ap (λ v. only s (pos w *ℤ v) R) e ∙ only-leaf s w R p ∙ sym (owed-zero leaf T w b s p R))
+    (sym (due-zero 1 T w b ∙ mul-one w))
 
 -- ---- the loop: `l` arguments are left after this one
-pub record Sofar (F : ℕ → Reading) (rest : ℕ) (T : List Term) (left from begun weight s : ℕ) (p : Net) (out : List ℤ) (closed c b w : ℕ) (now : List ℤ) : Type 0 where
-  pub toward : Toward out (owed F (drop from T) weight left begun s p) (due rest (drop from T) weight left begun) now (owed F (drop c T) w left b s p) (due rest (drop c T) w left b)
+pub record Sofar (F : ℕ → Reading) (rest : ℕ) (T : List Term) (left from begun weight s : ℕ) (p : Net) (out : List ℤ) (closed c b w : ℕ)
+    (now : List ℤ) : Type 0 where
+  pub toward : Toward out (owed F (drop from T) weight left begun s p) (due rest (drop from T) weight left begun) now (owed F (drop c T) w left b s p)
+      (due rest (drop c T) w left b)
   pub closes : w * choose b left ≡ closed
   pub few : b ≤ 4
   pub open-few : left ≤ b
 
 module _ (F : ℕ → Reading) (rest : ℕ) (T : List Term) (left from begun weight s : ℕ) (p : Net) (out : List ℤ) where
-  pub start : (closed : ℕ) → closed ≡ weight * choose begun left → begun ≤ 4 → left ≤ begun → Sofar F rest T left from begun weight s p out closed from begun weight out
+  pub start : (closed : ℕ) → closed ≡ weight * choose begun left → begun ≤ 4 → left ≤ begun
+      → Sofar F rest T left from begun weight s p out closed from begun weight out
   start closed e few opened = record { toward = toward-start _ _ _; closes = sym e; few = few; open-few = opened }
 
   module _ (closed c b w : ℕ) (now : List ℤ) (f : Sofar F rest T left from begun weight s p out closed c b w now) (l : ℕ) (e : left ≡ suc l) where
@@ -146,7 +152,9 @@ module _ (F : ℕ → Reading) (rest : ℕ) (T : List Term) (left from begun wei
       pub next-room : Room out (due rest (drop from T) weight left begun) → Room now (due rest (drop c T) (w * termAt T c .weight) l b)
       next-room r = room-less now _ _ (omega (arith, spent)) (toward-room (f .toward) r)
 
-      pub one-more : (next : List ℤ) → Gained now next (owed F (drop c T) (w * termAt T c .weight) l b (s + termAt T c .key) (step (termAt T c .argument) p)) (due rest (drop c T) (w * termAt T c .weight) l b)
+      pub one-more : (next : List ℤ)
+          → Gained now next (owed F (drop c T) (w * termAt T c .weight) l b (s + termAt T c .key) (step (termAt T c .argument) p))
+          (due rest (drop c T) (w * termAt T c .weight) l b)
           → Sofar F rest T left from begun weight s p out closed (suc c) left closed next
       one-more next gained = record {
         toward = toward-turn (f .toward) _ _ _ _ (λ R. rw (← (f .closes), e) (owed-turn F T l s p c b w h R)) spent next gained;

@@ -18,20 +18,24 @@ use Rattle.gather.proofs.Turn.{length-terms, term-at, term-weight, term
 use Rattle.gather.proofs.Turn as Turn
 
 -- a weight that is due is small
-pub able-small : (t : List ℕ) (count most g rest left from begun weight : ℕ) (sums : List ℤ) → Able t count most g rest left from begun weight sums → weight ≤ 2 ^ 24
+pub able-small : (t : List ℕ) (count most g rest left from begun weight : ℕ) (sums : List ℤ) → Able t count most g rest left from begun weight sums
+    → weight ≤ 2 ^ 24
 able-small t count most g rest left from begun weight sums able =
-    let some : 0 < termAt (termsOf t count g) from .weight = rw (term-at t count g from (able .here), term-weight t g from) (able .good .some from (able .here)) in
+    let some : 0 < termAt (termsOf t count g) from .weight = rw (term-at t count g from (able .here), term-weight t g from)
+    (able .good .some from (able .here)) in
     let inside : from < length (termsOf t count g) = rw (length-terms t count g) (able .here) in
     omega (arith, room-small (able .room), due-some rest (termsOf t count g) left from begun weight inside some (able .some))
 
-module _ (F : ℕ → Reading) (s : ℕ) (p : Net) (t : List ℕ) (count most g rest left from begun weight : ℕ) (sums : List ℤ) (able : Able t count most g rest left from begun weight sums) where
+module _ (F : ℕ → Reading) (s : ℕ) (p : Net) (t : List ℕ) (count most g rest left from begun weight : ℕ) (sums : List ℤ)
+    (able : Able t count most g rest left from begun weight sums) where
   abbrev T : List Term
   T = termsOf t count g
 
   pub start : (closed : ℕ) → closed ≡ weight * choose begun left → Sofar F rest T left from begun weight s p sums closed from begun weight sums
   start closed e = Turn.start F rest T left from begun weight s p sums closed e (able .few) (able .open-few)
 
-  module _ (l : ℕ) (e : left ≡ suc l) (closed c b w : ℕ) (now : List ℤ) (f : Sofar F rest (termsOf t count g) left from begun weight s p sums closed c b w now) where
+  module _ (l : ℕ) (e : left ≡ suc l) (closed c b w : ℕ) (now : List ℤ) (f : Sofar F rest (termsOf t count g) left from begun weight s p sums closed c
+      b w now) where
     pub all-done : count ≤ c → Gained sums now (owed F (drop from T) weight left begun s p) (due rest (drop from T) weight left begun)
     all-done h = Turn.all-done F rest T left from begun weight s p sums closed c b w now f l e (rw (length-terms t count g) h)
 
@@ -58,7 +62,9 @@ module _ (F : ℕ → Reading) (s : ℕ) (p : Net) (t : List ℕ) (count most g 
       pub next-small : w * weightAt t c ≤ 2 ^ 24
       next-small = able-small t count most g rest l c b (w * weightAt t c) now next-able
 
-      pub one-more : (then : List ℤ) → Gained now then (owed F (drop c T) (w * weightAt t c) l b (s + keyAt t c) (step (termOf t g c .argument) p)) (due rest (drop c T) (w * weightAt t c) l b)
+      pub one-more : (then : List ℤ)
+          → Gained now then (owed F (drop c T) (w * weightAt t c) l b (s + keyAt t c) (step (termOf t g c .argument) p))
+          (due rest (drop c T) (w * weightAt t c) l b)
           → Sofar F rest T left from begun weight s p sums closed (c + 1) left closed then
       one-more then gained =
           rw (add-one c)

@@ -7,6 +7,7 @@ use lib.IntN.{ℤ, pos}
 use lib.ListN.{length, getD, drop}
 use Rattle.units.specs.Bounds.{beyondTravel, beyondPath}
 use Rattle.request.specs.declared.Answer.{Answer}
+use Rattle.request.specs.declared.Rooms.{Rooms}
 use Rattle.request.specs.Request.{Request}
 use Rattle.request.specs.Cascade.{first, decided}
 use Rattle.request.specs.Refusal.{least, accepted, refusals}
@@ -20,6 +21,9 @@ beyond false = beyondTravel
 abbrev pub beyondPlace : Bool → List ℤ → ℕ
 beyondPlace path numbers = least (length numbers) (λ k. beyond path (getD numbers k (pos 0)))
 
+abbrev pub noRooms : Rooms
+noRooms = record { high = 0; low = 0; points = 0 }
+
 -- what the table answers from its seventh test on, VALUE, where the age and the rooms no longer count
 abbrev pub numbersJudged : Request → Answer
-numbersJudged rq = decided (first (drop 6 (refusals rq 0 0 0))) (accepted (rq .head))
+numbersJudged rq = decided (first (drop 6 (refusals rq 0 noRooms))) (accepted (rq .head))

@@ -13,6 +13,7 @@ use places::balance_place;
 use places::beyond_place;
 use request::Answer;
 use request::Head;
+use request::Rooms;
 use request::refusal;
 use units::Age;
 
@@ -26,15 +27,18 @@ fn place_count(head: Head) -> usize
 }
 
 // 5 ROOM
-fn not_room(head: Head, exact_room: usize, points_room: usize) -> bool
+fn not_room(head: Head, rooms: Rooms) -> bool
     requires { ⌜ notDegree head ≡ false ⌝ }
-    ensures { λ r. ⌜ r ≡ notRoom head «exact_room» «points_room» ⌝ }
+    ensures { λ r. ⌜ r ≡ notRoom head rooms ⌝ }
 {
     let count = place_count(head);
-    if exact_room < count {
+    if rooms.high < count {
         return true;
     }
-    if points_room < count {
+    if rooms.low < count {
+        return true;
+    }
+    if rooms.points < count {
         return true;
     }
     false
@@ -76,16 +80,9 @@ fn judge_numbers(head: Head, surface: &[i32], path: &[i32]) -> Answer
 }
 
 // The nine refusals in their order, each exactly on its condition, or the acceptance: document 01's answer to a request
-// whose output arrays have the two rooms.
-pub fn judge(
-    head: Head,
-    age: Age,
-    surface: &[i32],
-    path: &[i32],
-    exact_room: usize,
-    points_room: usize,
-) -> Answer
-    ensures { λ r. ⌜ r ≡ answer (requestOf head (now (surface .entry)) (now (path .entry))) (age .0) «exact_room» «points_room» ⌝ }
+// whose output arrays have these rooms.
+pub fn judge(head: Head, age: Age, surface: &[i32], path: &[i32], rooms: Rooms) -> Answer
+    ensures { λ r. ⌜ r ≡ answer (requestOf head (now (surface .entry)) (now (path .entry))) (age .0) rooms ⌝ }
 {
     if request::not_kind(head) {
         return refusal(1, 0);
@@ -105,7 +102,7 @@ pub fn judge(
     if path.len() != numbers {
         return refusal(4, 0);
     }
-    if not_room(head, exact_room, points_room) {
+    if not_room(head, rooms) {
         return refusal(5, 0);
     }
     judge_numbers(head, surface, path)

@@ -7,6 +7,7 @@ use lib.Dec.{ltb, eqb}
 use lib.ListN.{length}
 use Rattle.units.specs.Bounds.{stale}
 use Rattle.request.specs.declared.Answer.{Answer}
+use Rattle.request.specs.declared.Rooms.{Rooms}
 use Rattle.request.specs.Head.{mostPoints}
 use Rattle.request.specs.Cascade.{Test, test, first, refused, decided}
 use Rattle.request.specs.Refusal.{notKind, notDegree, answer}
@@ -40,9 +41,13 @@ doorRefusals bytes =
 unfoldable pub tested : List ℕ → Answer
 tested bytes = decided (first (doorRefusals bytes)) (refused 0 0)
 
--- the composer's answer to the request in a record, with room for the longest ride
+-- room for the longest ride
+abbrev pub mostRooms : Rooms
+mostRooms = record { high = mostPoints; low = mostPoints; points = mostPoints }
+
+-- the composer's answer to the request in a record
 abbrev pub composed : List ℕ → Answer
-composed bytes = answer (requestIn bytes) (ageIn bytes) mostPoints mostPoints
+composed bytes = answer (requestIn bytes) (ageIn bytes) mostRooms
 
 -- what is answered to a record: by the door's table, and then by the composer
 unfoldable pub judged : List ℕ → Answer

@@ -6,12 +6,12 @@ use Prim.Native.Nat.{ℕ, zero, suc, _+_, _*_, _-_, _/_, _^_, _≤_, _<_}
 use native.Mathlib.Nat.{mul-le-mul-left}
 use native.Mathlib.Decide.{ℕ-discrete}
 use native.Mathlib.Omega.{arith}
-use lib.IntN.{ℤ, pos, negsuc, negℤ, natAbs, _+ℤ_, _*ℤ_, +ℤ-idl, +ℤ-idr, +ℤ-negℤ-cancel}
+use lib.IntN.{ℤ, pos, negsuc, negℤ, natAbs, _+ℤ_, _*ℤ_, +ℤ-idl, +ℤ-idr}
 use lib.Signed.{shrZ}
 use lib.ListN.{length, getD, set, replicate, length-set}
 use lib.Seq.{getD-set-same, getD-set-other}
 use Rattle.whole.proofs.Ring.{_⊕_, _⊗_, ⊝_, ring, subs, is-sub}
-use Rattle.whole.proofs.Bound.{natAbs-add, natAbs-mul, natAbs-neg}
+use Rattle.whole.proofs.Bound.{natAbs-add, natAbs-mul}
 use Rattle.whole.proofs.Rounding.{distance}
 use Rattle.whole.proofs.Fill.{zeros}
 use Rattle.limbs.specs.Limbs.{twoLimbs, worth, Room, only, Gained}
@@ -89,7 +89,13 @@ module _ (l : List ℤ) (s w : ℕ) (q r : ℤ) (h : 2 * s + 1 < length l) where
     where
       go : Dec (t ≡ s) → worth both t ≡ worth l t +ℤ only s (pos w *ℤ twoLimbs q r) t
       go (yes e) = rw (e, high, low, only-same) (apart (getD l (2 * s) (pos 0)) (getD l (2 * s + 1) (pos 0)))
-      go (no f) = rw (other (2 * t) (λ e. f (omega arith)) (λ e. omega arith), other (2 * t + 1) (λ e. omega arith) (λ e. f (omega arith)), only-other s t (pos w *ℤ twoLimbs q r) f, +ℤ-idr)
+      go (no f) = rw (
+        other (2 * t) (λ e. f (omega arith)) (λ e. omega arith),
+        other (2 * t + 1) (λ e. omega arith) (λ e. f (omega arith)),
+        only-other
+            s t (pos w *ℤ twoLimbs q r) f,
+        +ℤ-idr,
+      )
 
   left : natAbs q ≤ 2 ^ 32 → natAbs r ≤ 2 ^ 32 → (rest : ℕ) → Room l (w + rest) → Room both rest
   left a b rest room = record { room = λ k. go k (ℕ-discrete k (2 * s)) (ℕ-discrete k (2 * s + 1)) }
@@ -124,12 +130,3 @@ summed n m f w h g = (λ t. g .worths t ∙ rw (zeros-worth n t) (+ℤ-idl (f t)
   where
     all : Room m (2 ^ 24 - w)
     all = g .left (2 ^ 24 - w) (room-less _ (2 ^ 24) (w + (2 ^ 24 - w)) (omega arith) (zeros-room n))
-
--- a place that fits 64 bits, and so do its parts
-pub parts-fit : (l : List ℤ) (s : ℕ) → natAbs (pos (2 ^ 32) *ℤ getD l (2 * s) (pos 0)) ≤ natAbs (worth l s) + natAbs (getD l (2 * s + 1) (pos 0))
-unfolding worth twoLimbs
-parts-fit l s =
-    apart (pos (2 ^ 32) *ℤ getD l (2 * s) (pos 0)) (getD l (2 * s + 1) (pos 0))
-  where
-    apart : (h w : ℤ) → natAbs h ≤ natAbs (h +ℤ w) + natAbs w
-    apart h w = omega (arith, ap natAbs (sym (+ℤ-negℤ-cancel h w)), natAbs-add (h +ℤ w) (negℤ w), natAbs-neg w)

@@ -1,3 +1,2 @@
--- Sums in two limbs: what they are worth; which of them are rounded. Assumes nothing.
+-- Sums in two limbs: what they are worth. Assumes nothing.
 pub mod Limbs
-pub mod Rounding

@@ -1,13 +1,11 @@
 // Sums of weighed values beyond 64 bits. A place of a lent array is two signed limbs, worth high·2^32 + low. One budget of
-// weight holds for all places; when all is summed a place is put together again, and rounded.
+// weight holds for all places.
 ghost use mathlib.Core.Path.{_≡_};
-ghost use Prim.Native.Nat.{_+_, _*_, _/_, _^_, _≤_, _<_};
+ghost use Prim.Native.Nat.{_+_, _*_, _^_, _≤_, _<_};
 ghost use lib.IntN.{pos, negℤ, natAbs, _+ℤ_, _*ℤ_};
 ghost use lib.Signed.{shrZ};
 ghost use lib.ListN.{length, getD, set};
-ghost use Rattle.whole.specs.Round.{onSideOf, nearest};
-ghost use Rattle.limbs.specs.Limbs.{worth, Room, Gained, only};
-ghost use Rattle.limbs.specs.Rounding.{Roundable};
+ghost use Rattle.limbs.specs.Limbs.{Room, Gained, only};
 use whole::Num;
 
 const BASE: u64 = 4294967296;
@@ -61,58 +59,4 @@ pub fn settle(sums: &mut [i64], s: usize, w: u64, v: Num)
     let high = upper(v);
     add(sums, 2 * s, w, high);
     add(sums, 2 * s + 1, w, lower(v, high));
-}
-
-// What place s is worth, where that fits 64 bits.
-pub fn joined(sums: &[i64], s: usize) -> Num
-    requires { ⌜ (2 * s + 1 < length (now sums)) × (natAbs (worth (now sums) s) + 2 * natAbs (getD (now sums) (2 * s + 1) (pos 0)) < 2 ^ 63) ⌝ }
-    ensures { λ r. ⌜ r .0 ≡ worth (now (sums .entry)) s ⌝ }
-{
-    let high = whole::product(whole::plus(BASE), at(sums, 2 * s));
-    whole::sum(high, at(sums, 2 * s + 1))
-}
-
-// ---- the rounding
-
-// Twice a size over 1024^r, cut off.
-fn halved(x: u64, r: usize) -> u64
-    requires { ⌜ (r ≤ 4) × (x ≤ 2 ^ 62) ⌝ }
-    ensures { λ y. ⌜ y ≡ 2 * x / 1024 ^ r ⌝ }
-{
-    if r == 0 {
-        return 2 * x;
-    }
-    if r == 1 {
-        return x / 512;
-    }
-    if r == 2 {
-        return x / 524288;
-    }
-    if r == 3 {
-        return x / 536870912;
-    }
-    x / 549755813888
-}
-
-// The number of p's size on n's side of zero; p is not negative.
-fn on_side(n: Num, p: Num) -> Num
-    requires { ⌜ (p .0 ≡ pos (natAbs (p .0))) × (natAbs (p .0) < 2 ^ 62) ⌝ }
-    ensures { λ r. ⌜ r .0 ≡ onSideOf (n .0) (natAbs (p .0)) ⌝ }
-{
-    if whole::negative(n) {
-        whole::product(p, whole::minus(1))
-    } else {
-        p
-    }
-}
-
-// The rounded point of n/(d·1024^r): the powers of 1024 are shifted away first, so that what is divided is small.
-pub fn rounded(n: Num, d: u64, r: usize) -> Num
-    requires { ⌜ Roundable (n .0) d r ⌝ }
-    ensures { λ p. ⌜ p .0 ≡ nearest (n .0) (d * 1024 ^ r) ⌝ }
-{
-    on_side(
-        n,
-        whole::nearest(whole::plus(halved(whole::size(n), r)), 2 * d),
-    )
 }

@@ -1,14 +1,14 @@
 -- How large a blossom value, a numerator and a rounded point can be: "every blossom value is at most 2^52 in size and every
--- numerator at most 924·2^52", each numerator at most its denominator times the greatest travel, so that no point is above the
+-- numerator at most 2704156·2^52", each numerator at most its denominator times the greatest travel, so that no point is above the
 -- greatest travel, and 0 past L. Assumes nothing.
 use mathlib.Core.Path.{_≡_, refl, sym, ap, _∙_, subst}
 use mathlib.Core.Bool.{cond}
 use mathlib.Core.List.{List, [], _∷_, _++_, map}
 use Prim.Native.Nat.{ℕ, zero, suc, _+_, _*_, _-_, _^_, _≤_, _<_}
-use native.Mathlib.Nat.{mul-le-mul, mul-assoc, mul-comm, le-trans, pow-suc, mul-pos, mul-zero, one-le-pow, suc-mul, add-comm, add-zero}
+use native.Mathlib.Nat.{mul-le-mul, mul-assoc, mul-comm, le-trans, pow-suc, mul-pos, one-le-pow, suc-mul, add-comm, add-zero}
 use native.Mathlib.Decide.{ℕ-discrete}
 use native.Mathlib.Omega.{arith}
-use lib.IntN.{ℤ, pos, negsuc, natAbs}
+use lib.IntN.{ℤ, pos, natAbs}
 use lib.Dec.{eqb, lit≤}
 use lib.ListN.{length, take, drop, length-append, length-map, take-append-drop}
 use borrow.Author.Tests.{eq-eqb, ne-eqb, eqb-true, not-false}
@@ -17,7 +17,7 @@ use Rattle.whole.specs.Choose.{choose, chooseFrom}
 use Rattle.whole.proofs.Ring.{_⊗_, pos-mul}
 use Rattle.whole.proofs.Sums.{sumTo-is}
 use Rattle.whole.proofs.Bound.{_⊑_, ⊑-of, ⊑-le, ⊑-scale}
-use Rattle.whole.proofs.Binomial.{weighed, weighed-scale, vandermonde-from, chooseFrom-zero, choose-above, choose-zero}
+use Rattle.whole.proofs.Binomial.{weighed, weighed-scale, vandermonde-from, chooseFrom-zero, choose-zero}
 use Rattle.whole.proofs.Rounding.{nearest-size}
 use Rattle.pascal.specs.Entry.{largest}
 use Rattle.pascal.proofs.Entries.{choose-most}
@@ -87,7 +87,8 @@ module _ (rq : Request) (good : GoodPath (rq .head) (rq .path)) where
       go (yes f) b = subst (Every Shared) (sym (at-curve (rq .head) _ _ _ f)) (every-map _ (λ c h. u-shared c 0) choice every)
       go (no n) (yes f) =
           subst (Every Shared) (sym (at-tensor (rq .head) _ _ _ f))
-          (every-append _ _ (every-map _ (λ c h. u-shared c 0) _ (every-take (rq .head .first) choice every)) (every-map _ (λ c h. v-shared c 1) _ (every-drop (rq .head .first) choice every)))
+          (every-append _ _ (every-map _ (λ c h. u-shared c 0) _ (every-take (rq .head .first) choice every))
+          (every-map _ (λ c h. v-shared c 1) _ (every-drop (rq .head .first) choice every)))
       go (no n) (no m) = subst (Every Shared) (sym (at-triangle (rq .head) _ _ _ n m)) (every-map _ (λ c h. xyz-shared n m c h) choice every)
 
 -- a choice has as many arguments as points
@@ -151,7 +152,8 @@ sum-size N (suc r) s R K f most =
     let part : ℕ → ℕ → ℤ = λ c k. pos (choose N c) ⊗ sumAt N r (s + c) R (λ rest. f (c ∷ rest)) in
     let bound : ℕ → ℕ → ℤ = λ c k. pos (choose N c) ⊗ (pos K ⊗ pos (chooseFrom (r * N) (s + c) R)) in
     let all : sumOver N part ⊑ sumOver N bound =
-    ⊑-sum-on N (λ c k h. ⊑-scale (choose N c) (weighty _ _ (sum-size N r (s + c) R K (λ rest. f (c ∷ rest)) (λ rest l e. most (c ∷ rest) (ap suc l) (more (omega arith) e))))) in
+    ⊑-sum-on N (λ c k h. ⊑-scale (choose N c) (weighty _ _ (sum-size N r (s + c) R K (λ rest. f (c ∷ rest))
+    (λ rest l e. most (c ∷ rest) (ap suc l) (more (omega arith) e))))) in
     rw (sum-more N r s R f, sumTo-is) (⊑-le (subst (λ y. sumOver N part ⊑ y) (spread N r s R K) all))
   where
     weighty : (x : ℤ) (n : ℕ) → natAbs x ≤ K * n → x ⊑ pos K ⊗ pos n
@@ -169,21 +171,13 @@ module _ (rq : Request) (fine : Composable rq) where
   numerator-size R =
       rw (mul-assoc (choose (longest (rq .head)) R) (1024 ^ degree (rq .head)) 4096, mul-comm (choose (longest (rq .head)) R)) (at-most R)
 
-  -- "every numerator at most 924·2^52"
+  -- "every numerator at most 2704156·2^52"
   pub numerator-most : (R : ℕ) → natAbs (numerator rq R) ≤ numeratorMost
   numerator-most R =
       le-trans (at-most R)
       (rw (mul-comm largest blossomMost)
-      (mul-le-mul (power-most (degree (rq .head)) (degree-most (rq .head) (fine .small))) (choose-most (longest (rq .head)) R (longest-most (rq .head) (fine .small)))))
-
-  -- there is nothing past L
-  pub numerator-past : (R : ℕ) → longest (rq .head) < R → numerator rq R ≡ pos 0
-  numerator-past R h = none-at (numerator rq R) (rw (choose-above (longest (rq .head)) R h, mul-zero) at (at-most R))
-    where
-      none-at : (z : ℤ) → natAbs z ≤ 0 → z ≡ pos 0
-      none-at (pos zero) h = refl
-      none-at (pos (suc n)) h = absurd (omega arith)
-      none-at (negsuc n) h = absurd (omega arith)
+      (mul-le-mul (power-most (degree (rq .head)) (degree-most (rq .head) (fine .small)))
+      (choose-most (longest (rq .head)) R (longest-most (rq .head) (fine .small)))))
 
   -- a denominator is not 0 where there is a point
   pub denominator-some : (R : ℕ) → R ≤ longest (rq .head) → 0 < denominator rq R

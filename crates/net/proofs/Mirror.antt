@@ -14,6 +14,7 @@ use Rattle.whole.proofs.Ring.{_⊗_, ⊝_, minus-⊗, ⊗-left-comm}
 use Rattle.whole.proofs.Bound.{natAbs-neg}
 use Rattle.whole.proofs.Rounding.{nearest-neg}
 use Rattle.units.specs.Bounds.{beyondTravel, most}
+use Rattle.request.specs.declared.Rooms.{Rooms}
 use Rattle.request.specs.Head.{degree}
 use Rattle.request.specs.Request.{Request}
 use Rattle.request.specs.Refusal.{least, valuePlace, refusals, answer, notSurface, notPath, notValue, notParameter, notBalance}
@@ -36,9 +37,9 @@ value-mirrored surface =
     ap (λ n. least n (λ k. beyondTravel (getD (map negℤ surface) k (pos 0)))) (length-map surface negℤ)
     ∙ (λ t. least (length surface) (λ k. (ap beyondTravel (List·getD-map negℤ surface k (pos 0)) ∙ beyond-neg (getD surface k (pos 0))) t))
 
-pub answer-mirrored : (rq : Request) (age exactRoom pointsRoom : ℕ) → answer (mirrored rq) age exactRoom pointsRoom ≡ answer rq age exactRoom pointsRoom
+pub answer-mirrored : (rq : Request) (age : ℕ) (rooms : Rooms) → answer (mirrored rq) age rooms ≡ answer rq age rooms
 unfolding mirrored refusals answer notSurface notPath notValue notParameter notBalance
-answer-mirrored rq age exactRoom pointsRoom = rw (length-map (rq .surface) negℤ, value-mirrored (rq .surface))
+answer-mirrored rq age rooms = rw (length-map (rq .surface) negℤ, value-mirrored (rq .surface))
 
 -- ---- the numerators: −1 times a net has −1 times its blossom
 single : Linear {A = Unit {0}} (λ f. f tt)

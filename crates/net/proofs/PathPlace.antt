@@ -79,7 +79,8 @@ module _ (N : ℕ) (a b : ℤ) where
     unfolding summed weightsOf
     v-weights = λ t. record { x = none t; y = place (λ c. number c 1) t; z = left 1 t }
 
-    xyz-weights : summed (sumTo N) (factor N a b) (λ c. weightsOf (within (number c 0) (number c 1) (number c 2))) ≡ record { x = here 0; y = here 1; z = here 2 }
+    xyz-weights : summed (sumTo N) (factor N a b) (λ c. weightsOf (within (number c 0) (number c 1) (number c 2))) ≡ record
+        { x = here 0; y = here 1; z = here 2 }
     unfolding summed weightsOf
     xyz-weights = λ t. record { x = place (λ c. number c 0) t; y = place (λ c. number c 1) t; z = place (λ c. number c 2) t }
 

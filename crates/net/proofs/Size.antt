@@ -13,7 +13,15 @@ shares-most x y z A B C M p q r =
 
 pub mixed-size : (x y z : ℕ) (a b c : ℤ) → natAbs (pos x *ℤ a +ℤ pos y *ℤ b +ℤ pos z *ℤ c) ≤ x * natAbs a + y * natAbs b + z * natAbs c
 mixed-size x y z a b c =
-    omega (arith, natAbs-add (pos x *ℤ a +ℤ pos y *ℤ b) (pos z *ℤ c), natAbs-add (pos x *ℤ a) (pos y *ℤ b), natAbs-mul (pos x) a, natAbs-mul (pos y) b, natAbs-mul (pos z) c)
+    omega (
+      arith,
+      natAbs-add (pos x *ℤ a +ℤ pos y *ℤ b) (pos z *ℤ c),
+      natAbs-add (pos x *ℤ a) (pos y *ℤ b),
+      natAbs-mul (pos x) a,
+      natAbs-mul (pos y)
+          b,
+      natAbs-mul (pos z) c,
+    )
 
 pub mixed-most : (x y z : ℕ) (a b c : ℤ) (M : ℕ) → x + y + z ≡ 1024 → natAbs a ≤ M → natAbs b ≤ M → natAbs c ≤ M
     → natAbs (pos x *ℤ a +ℤ pos y *ℤ b +ℤ pos z *ℤ c) ≤ 1024 * M

@@ -18,7 +18,12 @@ curve = record { head = record { form = 1; first = 2; second = 0; N = 1 }; surfa
 
 -- form 2, degrees (1, 2): "b(i,j) stands at i·(m+1) + j", and b(i, j) is 10·i + j + 1; path (u, v) = (51, 52), (61, 62)
 unfoldable pub tensor : Request
-tensor = record { head = record { form = 2; first = 1; second = 2; N = 1 }; surface = naturals (1 ∷ 2 ∷ 3 ∷ 11 ∷ 12 ∷ 13 ∷ []); path = naturals (51 ∷ 52 ∷ 61 ∷ 62 ∷ []) }
+tensor = record {
+  head = record { form = 2; first = 1; second = 2; N = 1 };
+  surface = naturals (1 ∷ 2 ∷ 3 ∷ 11 ∷ 12 ∷ 13 ∷ []);
+  path = naturals
+      (51 ∷ 52 ∷ 61 ∷ 62 ∷ []);
+}
 
 -- form 3, degree 2: "(0,0,2), (0,1,1), (0,2,0), (1,0,1), (1,1,0), (2,0,0)", and the value at (i, j, k) is 100·i + 10·j + k;
 -- path (x, y, z) = (71, 72, 73), (81, 82, 83)

@@ -1,4 +1,4 @@
--- "Inside these every blossom value is at most 2^52 in size and every numerator at most 924·2^52": which requests are inside,
+-- "Inside these every blossom value is at most 2^52 in size and every numerator at most 2704156·2^52": which requests are inside,
 -- and the two bounds. That they hold is proofs/Bounds.antt. Assumes nothing.
 use mathlib.Core.Path.{_≡_}
 use mathlib.Core.Bool.{false}

@@ -9,15 +9,15 @@ use lib.ListN.{length, getD}
 use Rattle.whole.specs.Choose.{choose}
 
 abbrev pub lastRow : ℕ
-lastRow = 12
+lastRow = 24
 
 -- the greatest number of the table, in the middle of its last row
 abbrev pub largest : ℕ
-largest = 924
+largest = 2704156
 
 -- how many numbers these rows have
 abbrev pub cells : ℕ
-cells = 91
+cells = 325
 
 -- n over k up to the last row, and 0 after it
 unfoldable pub entry : ℕ → ℕ → ℕ

@@ -1,14 +1,14 @@
-// The binomial coefficients, read from Pascal's triangle: one constant table of its rows 0 to 12, with the proof that each
+// The binomial coefficients, read from Pascal's triangle: one constant table of its rows 0 to 24, with the proof that each
 // number of it is the binomial coefficient of its row and place. What is answered is in specs/. Assumes nothing.
 ghost use mathlib.Core.Path.{_≡_};
 ghost use Prim.Native.Nat.{_≤_};
 ghost use Rattle.pascal.specs.Entry.{lastRow, entry, cellOf, Pascal};
 
 // The number of the table's last row.
-const LAST_ROW: usize = 12;
+const LAST_ROW: usize = 24;
 
 // Row n starts at n(n + 1)/2.
-const TABLE: [u32; 91] = [
+const TABLE: [u32; 325] = [
     // row 0
     1,
     // row 1
@@ -113,6 +113,252 @@ const TABLE: [u32; 91] = [
     66,
     12,
     1,
+    // row 13
+    1,
+    13,
+    78,
+    286,
+    715,
+    1287,
+    1716,
+    1716,
+    1287,
+    715,
+    286,
+    78,
+    13,
+    1,
+    // row 14
+    1,
+    14,
+    91,
+    364,
+    1001,
+    2002,
+    3003,
+    3432,
+    3003,
+    2002,
+    1001,
+    364,
+    91,
+    14,
+    1,
+    // row 15
+    1,
+    15,
+    105,
+    455,
+    1365,
+    3003,
+    5005,
+    6435,
+    6435,
+    5005,
+    3003,
+    1365,
+    455,
+    105,
+    15,
+    1,
+    // row 16
+    1,
+    16,
+    120,
+    560,
+    1820,
+    4368,
+    8008,
+    11440,
+    12870,
+    11440,
+    8008,
+    4368,
+    1820,
+    560,
+    120,
+    16,
+    1,
+    // row 17
+    1,
+    17,
+    136,
+    680,
+    2380,
+    6188,
+    12376,
+    19448,
+    24310,
+    24310,
+    19448,
+    12376,
+    6188,
+    2380,
+    680,
+    136,
+    17,
+    1,
+    // row 18
+    1,
+    18,
+    153,
+    816,
+    3060,
+    8568,
+    18564,
+    31824,
+    43758,
+    48620,
+    43758,
+    31824,
+    18564,
+    8568,
+    3060,
+    816,
+    153,
+    18,
+    1,
+    // row 19
+    1,
+    19,
+    171,
+    969,
+    3876,
+    11628,
+    27132,
+    50388,
+    75582,
+    92378,
+    92378,
+    75582,
+    50388,
+    27132,
+    11628,
+    3876,
+    969,
+    171,
+    19,
+    1,
+    // row 20
+    1,
+    20,
+    190,
+    1140,
+    4845,
+    15504,
+    38760,
+    77520,
+    125970,
+    167960,
+    184756,
+    167960,
+    125970,
+    77520,
+    38760,
+    15504,
+    4845,
+    1140,
+    190,
+    20,
+    1,
+    // row 21
+    1,
+    21,
+    210,
+    1330,
+    5985,
+    20349,
+    54264,
+    116280,
+    203490,
+    293930,
+    352716,
+    352716,
+    293930,
+    203490,
+    116280,
+    54264,
+    20349,
+    5985,
+    1330,
+    210,
+    21,
+    1,
+    // row 22
+    1,
+    22,
+    231,
+    1540,
+    7315,
+    26334,
+    74613,
+    170544,
+    319770,
+    497420,
+    646646,
+    705432,
+    646646,
+    497420,
+    319770,
+    170544,
+    74613,
+    26334,
+    7315,
+    1540,
+    231,
+    22,
+    1,
+    // row 23
+    1,
+    23,
+    253,
+    1771,
+    8855,
+    33649,
+    100947,
+    245157,
+    490314,
+    817190,
+    1144066,
+    1352078,
+    1352078,
+    1144066,
+    817190,
+    490314,
+    245157,
+    100947,
+    33649,
+    8855,
+    1771,
+    253,
+    23,
+    1,
+    // row 24
+    1,
+    24,
+    276,
+    2024,
+    10626,
+    42504,
+    134596,
+    346104,
+    735471,
+    1307504,
+    1961256,
+    2496144,
+    2704156,
+    2496144,
+    1961256,
+    1307504,
+    735471,
+    346104,
+    134596,
+    42504,
+    10626,
+    2024,
+    276,
+    24,
+    1,
 ];
 
 fn wide(x: u32) -> u64
@@ -122,7 +368,7 @@ fn wide(x: u32) -> u64
 }
 
 // The number at place k of row n of a table.
-fn cell(table: &[u32; 91], n: usize, k: usize) -> u64
+fn cell(table: &[u32; 325], n: usize, k: usize) -> u64
     requires { ⌜ (n ≤ lastRow) × (k ≤ n) ⌝ }
     ensures { λ r. ⌜ r ≡ cellOf (now (table .entry)) n k ⌝ }
 {
@@ -131,14 +377,14 @@ fn cell(table: &[u32; 91], n: usize, k: usize) -> u64
 }
 
 // The table. A constant is built anew wherever it is used, so a ride asks for it once and lends it.
-pub fn table() -> [u32; 91]
+pub fn table() -> [u32; 325]
     ensures { λ r. ⌜ Pascal r ⌝ }
 {
     TABLE
 }
 
 // n over k up to the last row; 0 for k above n, and for a row that the table does not have.
-pub fn binomial(table: &[u32; 91], n: usize, k: usize) -> u64
+pub fn binomial(table: &[u32; 325], n: usize, k: usize) -> u64
     requires { ⌜ Pascal (now table) ⌝ }
     ensures { λ r. ⌜ r ≡ entry n k ⌝ }
 {

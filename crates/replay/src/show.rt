@@ -283,9 +283,9 @@ pub fn put_pair(pair: &[u8]) {
     if pair.len() < end {
         return;
     }
-    let mut today = [0u8; 34];
+    let mut today = [0u8; replies::ROOM];
     let count = door::door_reply(&pair[..end], &mut today);
-    if 34 < count {
+    if replies::ROOM < count {
         return;
     }
     put_three(&pair[..end], &pair[end..], &today[..count]);

@@ -18,7 +18,7 @@ answerBytes a = a .number ∷ a .place ∷ a .count ∷ 0 ∷ []
 unfoldable pub replyRecord : Answer → List ℤ → List ℕ
 replyRecord a points = recordOf replyKind (answerBytes a ++ numberBytes points)
 
--- "Under 34 bytes of reply room": 8 and two for each of the most points
+-- "At the door the reply room is 58 bytes" (02, ticket 6): 8 and two for each of the most points
 abbrev pub room : ℕ
 room = start + 2 * mostPoints
 

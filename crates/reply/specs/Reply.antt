@@ -4,9 +4,10 @@ use mathlib.Core.List.{List}
 use Prim.Native.Nat.{ℕ, _≤_, min}
 use lib.IntN.{ℤ, negsuc}
 use lib.ListN.{length, take, replicate}
+use Rattle.two_words.specs.Words.{numbersOf}
 use Rattle.request.specs.Refusal.{answer}
 use Rattle.request.specs.Request.{Request, requestOf}
-use Rattle.compose.specs.Afterwards.{exactAfter, pointsAfter}
+use Rattle.compose.specs.Afterwards.{Arrays, arrays, roomsOf, highAfter, lowAfter, pointsAfter}
 use Rattle.text.specs.declared.Reading.{Reading}
 use Rattle.answer_line.specs.Answer.{answerLine}
 
@@ -14,20 +15,21 @@ use Rattle.answer_line.specs.Answer.{answerLine}
 unfoldable pub shown : Bool → ℕ → ℕ → ℕ
 shown given count room = cond given room (min count room)
 
--- the answer line of a request on a tilt sample of some age, whose arrays for numerators and points are lent
-unfoldable pub replyOf : Request → ℕ → Bool → List ℤ → List ℤ → List ℕ
-replyOf rq age given exact points =
-    let a = answer rq age (length exact) (length points) in
-    answerLine (a .number) (a .place) (a .count)
-    (take (shown given (a .count) (length exact)) (exactAfter rq age exact points))
-    (take (shown given (a .count) (length points)) (pointsAfter rq age exact points))
+-- the answer line of a request on a tilt sample of some age, whose arrays for words and points are lent
+unfoldable pub replyOf : Request → ℕ → Bool → Arrays → List ℕ
+replyOf rq age given lent =
+    let a = answer rq age (roomsOf lent) in
+    let c = shown given (a .count) (length (lent .high)) in
+    let d = shown given (a .count) (length (lent .points)) in
+    answerLine (a .number) (a .place) (a .count) (numbersOf (take c (highAfter rq age lent)) (take c (lowAfter rq age lent)))
+    (take d (pointsAfter rq age lent))
 
--- what the places for numerators and for points hold beforehand: −7 and −9
-abbrev pub exactLent : ℕ → List ℤ
-exactLent room = replicate room (negsuc 6)
+-- what the places hold beforehand: −7, by its words, and −9; the first room is that of both words' arrays
+abbrev pub lowSeven : ℕ
+lowSeven = 18446744073709551609
 
-abbrev pub pointsLent : ℕ → List ℤ
-pointsLent room = replicate room (negsuc 8)
+abbrev pub arraysLent : ℕ → ℕ → Arrays
+arraysLent exact points = arrays (replicate exact (negsuc 0)) (replicate exact lowSeven) (replicate points (negsuc 8))
 
 -- what was read, with its numbers at the front of two arrays, has an answer that fits
 pub record Fits (r : Reading) (surface path : List ℤ) (out : List ℕ) : Type 0 where
@@ -41,4 +43,4 @@ pub record Fits (r : Reading) (surface path : List ℤ) (out : List ℕ) : Type 
 unfoldable pub lineIn : Reading → List ℤ → List ℤ → List ℕ
 lineIn r surface path =
     replyOf (requestOf (r .head) (take (r .surface) surface) (take (r .path) path)) (r .age) (r .rooms .given)
-    (exactLent (r .rooms .exact)) (pointsLent (r .rooms .points))
+    (arraysLent (r .rooms .exact) (r .rooms .points))

@@ -1,14 +1,19 @@
-// The answer line of a request: the composer's answer, and both arrays in the places that are shown.
+// The answer line of a request: the composer's answer, and its arrays in the places that are shown.
 ghost use mathlib.Core.Path.{_≡_};
 ghost use Prim.Native.Nat.{_≤_};
 ghost use lib.ListN.{length};
 ghost use Rattle.request.specs.Request.{requestOf};
+ghost use Rattle.compose.specs.Afterwards.{arrays};
+ghost use Rattle.answer_line.specs.Answer.{Listed};
 ghost use Rattle.reply.specs.Reply.{shown, replyOf, Fits, lineIn};
 ghost use Rattle.spell.specs.Decimal.{Written};
 use answer_line::write_answer;
 use request::Head;
 use text::Reading;
 use units::Age;
+
+// The low word of -7, whose high word is -1.
+const LOW_SEVEN: u64 = 18446744073709551609;
 
 // How many places of an array are shown: all where the line gives rooms, else those that the answer counts.
 fn shown(given: bool, count: usize, room: usize) -> usize
@@ -30,22 +35,24 @@ fn reply_in(
     given: bool,
     surface: &[i32],
     path: &[i32],
-    exact: &mut [i64],
+    high: &mut [i64],
+    low: &mut [u64],
     points: &mut [i32],
     out: &mut [u8],
 ) -> usize
-    requires { ⌜ (length (now exact) ≤ 64) × (length (now points) ≤ 64) × (4096 ≤ length (now out)) ⌝ }
+    requires { ⌜ Listed (now high) (now low) (now points) × (4096 ≤ length (now out)) ⌝ }
     ensures { λ r. ⌜ Written 4096 (now (out .entry)) 0 (replyOf (requestOf head (now (surface .entry)) (now (path .entry))) (age .0) given
-        (now (exact .entry)) (now (points .entry))) (now (out .exit)) r ⌝ }
+        (arrays (now (high .entry)) (now (low .entry)) (now (points .entry)))) (now (out .exit)) r ⌝ }
 {
-    let answer = compose::compose(head, age, surface, path, exact, points);
-    let c = shown(given, answer.count, exact.len());
+    let answer = compose::compose(head, age, surface, path, high, low, points);
+    let c = shown(given, answer.count, high.len());
     let d = shown(given, answer.count, points.len());
     write_answer(
         answer.number,
         answer.place,
         answer.count,
-        &exact[..c],
+        &high[..c],
+        &low[..c],
         &points[..d],
         out,
         0,
@@ -57,7 +64,8 @@ pub fn reply(reading: Reading, surface: &[i32], path: &[i32], out: &mut [u8]) ->
     requires { ⌜ Fits reading (now surface) (now path) (now out) ⌝ }
     ensures { λ r. ⌜ Written 4096 (now (out .entry)) 0 (lineIn reading (now (surface .entry)) (now (path .entry))) (now (out .exit)) r ⌝ }
 {
-    let mut exact = [-7i64; 64];
+    let mut high = [-1i64; 64];
+    let mut low = [LOW_SEVEN; 64];
     let mut points = [-9i32; 64];
     let head = reading.head;
     let rooms = reading.rooms;
@@ -71,7 +79,8 @@ pub fn reply(reading: Reading, surface: &[i32], path: &[i32], out: &mut [u8]) ->
         rooms.given,
         &surface[..values],
         &path[..numbers],
-        &mut exact[..a],
+        &mut high[..a],
+        &mut low[..a],
         &mut points[..b],
         out,
     )

@@ -5,14 +5,14 @@ use Prim.Native.Nat.{ℕ, _+_, _*_, _/_}
 use lib.Dec.{eqb}
 use Rattle.request.specs.declared.Head.{Head}
 
--- "r is 0 to 4; N is 0 to 3"
+-- "r is 0 to 4" (01); "N up to 6" (02, ticket 6)
 abbrev pub mostDegree : ℕ
 mostDegree = 4
 
 abbrev pub mostN : ℕ
-mostN = 3
+mostN = 6
 
--- "so L is at most 12": the points of the longest answer
+-- "so L up to 24": the points of the longest answer
 abbrev pub mostPoints : ℕ
 mostPoints = mostDegree * mostN + 1
 

@@ -9,6 +9,7 @@ use lib.ListN.{length, getD}
 use Rattle.units.specs.Bounds.{beyondTravel, beyondPath, stale, pathOne}
 use Rattle.request.specs.declared.Answer.{Answer}
 use Rattle.request.specs.declared.Head.{Head}
+use Rattle.request.specs.declared.Rooms.{Rooms}
 use Rattle.request.specs.Head.{mostDegree, mostN, byForm, degree, longest, surfaceCount, pathCount}
 use Rattle.request.specs.Request.{Request}
 use Rattle.request.specs.Cascade.{Test, test, first, decided}
@@ -22,7 +23,7 @@ least (suc n) bad = cond (bad zero) zero (suc (least n (λ k. bad (suc k))))
 unfoldable pub notKind : Head → Bool
 notKind h = not (eqb (h .form) 1 || eqb (h .form) 2 || eqb (h .form) 3)
 
--- 2 DEGREE: "r above 4, N above 3, or a second degree other than 0 in forms 1 and 3"
+-- 2 DEGREE: "r above 4, N above 3 (6 since ticket 6), or a second degree other than 0 in forms 1 and 3"
 unfoldable pub notDegree : Head → Bool
 notDegree h = ltb mostDegree (degree h) || ltb mostN (h .N) || byForm h (not (eqb (h .second) 0)) false (not (eqb (h .second) 0))
 
@@ -34,9 +35,9 @@ notSurface rq = not (eqb (length (rq .surface)) (surfaceCount (rq .head)))
 unfoldable pub notPath : Request → Bool
 notPath rq = not (eqb (length (rq .path)) (pathCount (rq .head)))
 
--- 5 ROOM: "either output array has fewer than L+1 places"
-unfoldable pub notRoom : Head → ℕ → ℕ → Bool
-notRoom h exactRoom pointsRoom = ltb exactRoom (longest h + 1) || ltb pointsRoom (longest h + 1)
+-- 5 ROOM: "ROOM asks for L+1 places in each of the three" output arrays (02, ticket 6)
+unfoldable pub notRoom : Head → Rooms → Bool
+notRoom h rooms = ltb (rooms .high) (longest h + 1) || ltb (rooms .low) (longest h + 1) || ltb (rooms .points) (longest h + 1)
 
 -- the place of 6 VALUE: "the least index in its input array" of "a control value beyond its bounds", or the array's length
 unfoldable pub valuePlace : List ℤ → ℕ
@@ -74,21 +75,21 @@ notBalance rq = byForm (rq .head) false false (ltb (balancePlace (rq .path) (rq 
 unfoldable pub accepted : Head → Answer
 accepted h = record { number = 0; place = 0; count = longest h + 1 }
 
--- the table, for the age of the tilt sample and the two rooms: "For 6 and 7 the place is the least index in its input array;
+-- the table, for the age of the tilt sample and the three rooms: "For 6 and 7 the place is the least index in its input array;
 -- for 8 it is the least point number; otherwise 0." 10 STALE "stands right after DEGREE" (02, ticket 3)
-unfoldable pub refusals : Request → ℕ → ℕ → ℕ → List Test
-refusals rq age exactRoom pointsRoom =
+unfoldable pub refusals : Request → ℕ → Rooms → List Test
+refusals rq age rooms =
     test 1 (notKind (rq .head)) 0
     ∷ test 2 (notDegree (rq .head)) 0
     ∷ test 10 (stale age) 0
     ∷ test 3 (notSurface rq) 0
     ∷ test 4 (notPath rq) 0
-    ∷ test 5 (notRoom (rq .head) exactRoom pointsRoom) 0
+    ∷ test 5 (notRoom (rq .head) rooms) 0
     ∷ test 6 (notValue rq) (valuePlace (rq .surface))
     ∷ test 7 (notParameter rq) (parameterPlace (rq .path))
     ∷ test 8 (notBalance rq) (balancePlace (rq .path) (rq .head .N))
     ∷ []
 
 -- "The answer is a number, a place and a count."
-unfoldable pub answer : Request → ℕ → ℕ → ℕ → Answer
-answer rq age exactRoom pointsRoom = decided (first (refusals rq age exactRoom pointsRoom)) (accepted (rq .head))
+unfoldable pub answer : Request → ℕ → Rooms → Answer
+answer rq age rooms = decided (first (refusals rq age rooms)) (accepted (rq .head))

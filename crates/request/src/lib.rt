@@ -9,11 +9,11 @@ ghost use Rattle.request.specs.Refusal.{notKind, notDegree};
 // The greatest r and the greatest N, and what they ask for at most.
 const MOST_DEGREE: u32 = 4;
 
-const MOST_N: u32 = 3;
+const MOST_N: u32 = 6;
 
-pub const MOST_POINTS: usize = 13;
+pub const MOST_POINTS: usize = 25;
 
-pub const MOST_PATH_NUMBERS: usize = 12;
+pub const MOST_PATH_NUMBERS: usize = 21;
 
 // What a request is besides its two arrays: the form, a first and a second degree, and the path's degree N.
 pub struct Head {
@@ -21,6 +21,13 @@ pub struct Head {
     pub first: u32,
     pub second: u32,
     pub N: u32,
+}
+
+// How many places each output array has: the high words and the low words of the numerators, and the rounded points.
+pub struct Rooms {
+    pub high: usize,
+    pub low: usize,
+    pub points: usize,
 }
 
 // number: 0 for accepted, else the refusal's. place: the least bad index (VALUE, PARAMETER) or the least bad point's

@@ -40,7 +40,9 @@ budget-walk : (T : List Term) (left begun rest s : ℕ) (p : Net) → pos (budge
 unfolding budget walk _⊕_ _⊗_
 budget-walk T zero begun rest s p = refl
 budget-walk [] (suc left) begun rest s p = refl
-budget-walk (t ∷ T) (suc left) begun rest s p = ap₂ _⊕_ (ap (λ x. pos (t .weight) ⊗ x) (budget-walk (t ∷ T) left begun rest (s + t .key) (step (t .argument) p))) (ap (λ x. pos (choose begun (suc left)) ⊗ x) (budget-walk T (suc left) (suc left) rest s p))
+budget-walk (t ∷ T) (suc left) begun rest s p = ap₂ _⊕_ (ap (λ x. pos (t .weight) ⊗ x)
+    (budget-walk (t ∷ T) left begun rest (s + t .key) (step (t .argument) p))) (ap (λ x. pos (choose begun (suc left)) ⊗ x)
+    (budget-walk T (suc left) (suc left) rest s p))
 
 pub budget-is : (T : List Term) (r rest : ℕ) → budget T r r rest ≡ weights T ^ r * rest
 budget-is T r rest =

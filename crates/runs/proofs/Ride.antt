@@ -89,7 +89,8 @@ module _ (rq : Request) (R : ℕ) where
   h = rq .head
 
   -- what form 1, 2 or 3 makes of the literal sum
-  of-form : (r : ℕ) (f : List ℕ → List Argument) → degree h ≡ r → ((c : List ℕ) → arguments rq c ≡ f c) → numerator rq R ≡ sumAt (h .N) r 0 R (λ c. blossom (f c) (netOf rq))
+  of-form : (r : ℕ) (f : List ℕ → List Argument) → degree h ≡ r → ((c : List ℕ) → arguments rq c ≡ f c)
+      → numerator rq R ≡ sumAt (h .N) r 0 R (λ c. blossom (f c) (netOf rq))
   of-form r f e a =
       numerator-is rq R ∙ ap (λ n. sumAt (h .N) n 0 R (λ c. blossom (arguments rq c) (netOf rq))) e
       ∙ (λ t. sumAt (h .N) r 0 R (λ c. blossom (a c t) (netOf rq)))
@@ -108,6 +109,7 @@ module _ (rq : Request) (R : ℕ) where
       ∙ both-walk (h .N) R (λ c. alongU (pathNumber rq c 0)) (λ c. alongV (pathNumber rq c 1)) (h .second) (h .first) (netOf rq)
 
   pub triangle-walk : (h .form ≡ 1 → ⊥) → (h .form ≡ 2 → ⊥)
-      → numerator rq R ≡ walk (pathTerms (h .N) (λ c. within (pathNumber rq c 0) (pathNumber rq c 1) (pathNumber rq c 2))) (h .first) (h .first) (leaf R) 0 (netOf rq)
+      → numerator rq R ≡ walk (pathTerms (h .N) (λ c. within (pathNumber rq c 0) (pathNumber rq c 1) (pathNumber rq c 2))) (h .first) (h .first)
+      (leaf R) 0 (netOf rq)
   unfolding degree arguments
   triangle-walk no1 no2 = of-form (h .first) _ (at-triangle h _ _ _ no1 no2) (λ c. at-triangle h _ _ _ no1 no2) ∙ one-walk (h .N) R _ (h .first) (netOf rq)

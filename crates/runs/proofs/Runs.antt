@@ -24,7 +24,8 @@ over-cong T f g e = λ t. over T (λ a. e a t)
 pub over-scale : {A : Type 0} (T : List A) (c : ℤ) (f : A → ℤ) → over T (λ a. c ⊗ f a) ≡ c ⊗ over T f
 unfolding over
 over-scale [] c f = sym (⊗-zero c)
-over-scale (a ∷ T) c f = over-cons a T (λ a. c ⊗ f a) ∙ ap (λ x. c ⊗ f a ⊕ x) (over-scale T c f) ∙ sym (⊗-⊕ c (f a) (over T f)) ∙ ap (λ x. c ⊗ x) (sym (over-cons a T f))
+over-scale (a ∷ T) c f = over-cons a T (λ a. c ⊗ f a) ∙ ap (λ x. c ⊗ f a ⊕ x) (over-scale T c f) ∙ sym (⊗-⊕ c (f a) (over T f)) ∙ ap (λ x. c ⊗ x)
+    (sym (over-cons a T f))
 
 weighed-none : (n : ℕ) → weighed n (λ i k. pos 0) ≡ pos 0
 unfolding weighed

@@ -56,7 +56,8 @@ module _ (t : Term) (T : List Term) (F : Reading) (begun : ℕ) where
       walk-cons t T left begun F s p ∙ ⊕-comm _ _
       ∙ ap₂ _⊕_
       (ap (λ x. pos (choose begun (suc left)) ⊗ x) (later (suc left) s p) ∙ sym (after-none s p (suc left)))
-      (ap (λ x. pos (t .weight) ⊗ x) (walk-on later left (s + t .key) (step (t .argument) p)) ∙ sym (sum-scale left (pos (t .weight)) _) ∙ sum-cong left _ _ (after-again s p))
+      (ap (λ x. pos (t .weight) ⊗ x) (walk-on later left (s + t .key) (step (t .argument) p)) ∙ sym (sum-scale left (pos (t .weight)) _) ∙ sum-cong
+      left _ _ (after-again s p))
       ∙ sym (sum-suc left (after s p))
 
 pub walk-runs : (T : List Term) (r : ℕ) (F : Reading) (s : ℕ) (p : Net) → walk T r r F s p ≡ runs T r F s p
@@ -65,7 +66,8 @@ walk-runs [] zero F s p = refl
 walk-runs [] (suc r) F s p = refl
 walk-runs (t ∷ T) r F s p =
     walk-on t T F r (λ k s p. walk-runs T k F s p) r s p
-    ∙ sum-cong-on r _ _ (λ e k h. ap (λ c. pos c ⊗ (pow (pos (t .weight)) e ⊗ runs T k F (s + e * t .key) (repeated e (t .argument) p))) (sym (choose-sym r e k h)))
+    ∙ sum-cong-on r _ _ (λ e k h. ap (λ c. pos c ⊗ (pow (pos (t .weight)) e ⊗ runs T k F (s + e * t .key) (repeated e (t .argument) p)))
+    (sym (choose-sym r e k h)))
     ∙ sym (runs-cons t T r F s p)
 
 -- from the start of a group the walk is the sum over all choices

@@ -21,7 +21,8 @@ front-slid p s gap count n m h few = record {
   most = λ bound small. front-small n m (slideOf p s gap) _ (λ k. between-most s _ _ bound h (small .most k) (small .most (k + gap)));
 }
 
-pub slid-u : (p q : List ℤ) (s gap count : ℕ) → Slid p s gap count q → (i j : ℕ) → i * gap + j < count → boxed gap q i j ≡ step (alongU (pos s)) (boxed gap p) i j
+pub slid-u : (p q : List ℤ) (s gap count : ℕ) → Slid p s gap count q → (i j : ℕ) → i * gap + j < count
+    → boxed gap q i j ≡ step (alongU (pos s)) (boxed gap p) i j
 unfolding boxed step between
 slid-u p q s gap count h i j l =
     let e : i * gap + j + gap ≡ suc i * gap + j = omega (arith, suc-mul i gap) in

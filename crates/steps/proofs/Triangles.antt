@@ -76,5 +76,6 @@ triOf p x y k = among x y (getD p k (pos 0)) (getD p (further k) (pos 0)) (getD 
 pub front-lowered : (p : List ℤ) (x y d m : ℕ) → x + y ≤ 1024 → Lowered p x y d (front (before d) m (triOf p x y))
 front-lowered p x y d m h = record {
   each = in-front (before d) m (triOf p x y);
-  most = λ bound small. front-small (before d) m (triOf p x y) _ (λ k. among-most x y _ _ _ bound h (small .most k) (small .most (further k)) (small .most (further k + 1)));
+  most = λ bound small. front-small (before d) m (triOf p x y) _ (λ k. among-most x y _ _ _ bound h (small .most k) (small .most (further k))
+      (small .most (further k + 1)));
 }

@@ -1,5 +1,5 @@
 -- A ride from its table and its surface to its numerators: the sum may begin, what it owes is document 01's literal sum, and what
--- it leaves fits 64 bits. Assumes nothing.
+-- it leaves is far below 2^63 in every limb. Assumes nothing.
 use mathlib.Core.Path.{_≡_, refl, sym, _∙_, ap, ap₂, subst}
 use mathlib.Core.Bool.{true, false, _||_, true≢false}
 use mathlib.Core.List.{List, _∷_}
@@ -27,7 +27,6 @@ use Rattle.net.specs.Blossom.{Argument, alongU, alongV, within}
 use Rattle.net.specs.Composed.{numerator}
 use Rattle.net.specs.Sizes.{Composable}
 use Rattle.net.proofs.Rounded.{choose-some}
-use Rattle.net.proofs.Bounds.{numerator-most}
 use Rattle.runs.specs.Terms.{Term, termAt, Reading}
 use Rattle.runs.specs.Walk.{walk}
 use Rattle.runs.specs.Ride.{leaf, below, pathTerm, pathTerms}
@@ -62,11 +61,13 @@ below-weights zero f g h = refl
 below-weights (suc n) f g h = ap₂ _+_ (h 0 (omega arith)) (below-weights n (λ c. f (suc c)) (λ c. g (suc c)) (λ c m. h (suc c) (omega arith)))
 
 -- a table's term is a path's: its key, its weight and its argument are
-u-term : (t : List ℕ) (N : ℕ) (read : ℕ → Argument) (c : ℕ) → keyAt t c ≡ c → weightAt t c ≡ choose N c → alongU (pos (shareAt t c 2)) ≡ read c → termOf t 2 c ≡ pathTerm N read c
+u-term : (t : List ℕ) (N : ℕ) (read : ℕ → Argument) (c : ℕ) → keyAt t c ≡ c → weightAt t c ≡ choose N c → alongU (pos (shareAt t c 2)) ≡ read c
+    → termOf t 2 c ≡ pathTerm N read c
 unfolding termOf argumentOf pathTerm
 u-term t N read c k w a = λ i. record { weight = w i; key = k i; argument = a i }
 
-v-term : (t : List ℕ) (N : ℕ) (read : ℕ → Argument) (c : ℕ) → keyAt t c ≡ c → weightAt t c ≡ choose N c → alongV (pos (shareAt t c 3)) ≡ read c → termOf t 3 c ≡ pathTerm N read c
+v-term : (t : List ℕ) (N : ℕ) (read : ℕ → Argument) (c : ℕ) → keyAt t c ≡ c → weightAt t c ≡ choose N c → alongV (pos (shareAt t c 3)) ≡ read c
+    → termOf t 3 c ≡ pathTerm N read c
 unfolding termOf argumentOf pathTerm
 v-term t N read c k w a = λ i. record { weight = w i; key = k i; argument = a i }
 
@@ -136,13 +137,13 @@ none-left T n F s p e = ap (λ n. walk T n n F s p) e ∙ walk-zero T 0 F s p
 
 -- ---- what is left in the places
 module _ (rq : Request) (fine : Composable rq) where
-  pub finished : (out : List ℤ) (f : ℕ → ℤ) (w : ℕ) → w ≤ 2 ^ 24 → ((R : ℕ) → f R ≡ numerator rq R) → Gained (replicate 26 (pos 0)) out f w → Summed rq out
+  pub finished : (out : List ℤ) (f : ℕ → ℤ) (w : ℕ) → w ≤ 2 ^ 24 → ((R : ℕ) → f R ≡ numerator rq R) → Gained (replicate 50 (pos 0)) out f w → Summed rq out
   finished out f w light is gained =
-      let all = summed 26 out f w light gained in
+      let all = summed 50 out f w light gained in
       let worths : (R : ℕ) → worth out R ≡ numerator rq R = λ R. all .0 R ∙ is R in record {
-        long = gained .long ∙ length-replicate 26 (pos 0);
+        long = gained .long ∙ length-replicate 50 (pos 0);
         each = worths;
-        fits = λ R. rw (worths R) (omega (arith, numerator-most rq fine R, all .1 (2 * R + 1)));
+        small = all .1;
       }
 
   abbrev h : Head
@@ -250,7 +251,7 @@ module _ (rq : Request) (fine : Composable rq) where
       unfolding longest
       L-most = rw (← together, e) (longest-most h (fine .small))
 
-      ready-at : Ready t (suc N) outer m (l + m) 0 (ofGroup m (l + m)) 0 1 (replicate 26 (pos 0))
+      ready-at : Ready t (suc N) outer m (l + m) 0 (ofGroup m (l + m)) 0 1 (replicate 50 (pos 0))
       ready-at = record {
         most = N;
         able = record {
@@ -259,19 +260,19 @@ module _ (rq : Request) (fine : Composable rq) where
           few = omega (arith, of-most t (suc N) outer m (l + m), few);
           open-few = omega arith;
           some = rest-some;
-          room = room-less (replicate 26 (pos 0)) (2 ^ 24) _ duty-most (zeros-room 26);
+          room = room-less (replicate 50 (pos 0)) (2 ^ 24) _ duty-most (zeros-room 50);
         };
         total = few;
         second-few = let k = few in omega arith;
         places = let k = L-most in omega arith;
       }
 
-      pub ready : Ready t (N + 1) outer m r 0 (ofGroup m r) 0 1 (replicate 26 (pos 0))
+      pub ready : Ready t (N + 1) outer m r 0 (ofGroup m r) 0 1 (replicate 50 (pos 0))
       ready = rw (add-one N, together) ready-at
 
       -- what was gained from the start is the numerators, where what is owed is
       pub done : (p : Net) → ((R : ℕ) → owing t (suc N) outer m (l + m) 0 (ofGroup m (l + m)) 0 1 p R ≡ numerator rq R) → (out : List ℤ)
-          → Gained (replicate 26 (pos 0)) out (owing t (N + 1) outer m r 0 (ofGroup m r) 0 1 p) (duty t (N + 1) outer m r 0 (ofGroup m r) 1) → Summed rq out
+          → Gained (replicate 50 (pos 0)) out (owing t (N + 1) outer m r 0 (ofGroup m r) 0 1 p) (duty t (N + 1) outer m r 0 (ofGroup m r) 1) → Summed rq out
       done p is out gained = finished out _ _ duty-most is (rw (add-one N, together) at gained)
 
     no-second : (h .form ≡ 2 → ⊥) → m ≡ 0
@@ -332,9 +333,12 @@ module _ (rq : Request) (fine : Composable rq) where
       sum-is c k =
           let p = path-numbers (rq .path) (fine .good .numbers) in
           let n : numbers h ≡ 3 = sym (triangle-numbers h no1 no2) in
-          let x : pos (shareAt t c 2) ≡ getD (rq .path) (3 * c) (pos 0) = point c k .first ∙ ap (λ n. getD (rq .path) n (pos 0)) (ap (λ n. n * c + 0) n ∙ add-zero (3 * c)) in
+          let x : pos (shareAt t c 2) ≡ getD (rq .path) (3 * c) (pos 0) = point c k .first ∙ ap (λ n. getD (rq .path) n (pos 0))
+          (ap (λ n. n * c + 0) n ∙ add-zero (3 * c)) in
           let y : pos (shareAt t c 3) ≡ getD (rq .path) (3 * c + 1) (pos 0) = point c k .second no1 ∙ ap (λ (n : ℕ). getD (rq .path) (n * c + 1) (pos 0)) n in
-          let s : natAbs (getD (rq .path) (3 * c) (pos 0)) + natAbs (getD (rq .path) (3 * c + 1) (pos 0)) + natAbs (getD (rq .path) (3 * c + 2) (pos 0)) ≡ 1024 = eqb-true _ _ (not-false _ (sym (uneven-is (rq .path) c (fine .good .numbers)) ∙ even-points (rq .path) N (fine .good .even no1 no2) c (omega arith))) in
+          let s : natAbs (getD (rq .path) (3 * c) (pos 0)) + natAbs (getD (rq .path) (3 * c + 1) (pos 0)) + natAbs
+          (getD (rq .path) (3 * c + 2) (pos 0)) ≡ 1024 = eqb-true _ _ (not-false _ (sym (uneven-is (rq .path) c (fine .good .numbers)) ∙ even-points
+          (rq .path) N (fine .good .even no1 no2) c (omega arith))) in
           let a : shareAt t c 2 ≡ natAbs (getD (rq .path) (3 * c) (pos 0)) = ap natAbs x in
           let b : shareAt t c 3 ≡ natAbs (getD (rq .path) (3 * c + 1) (pos 0)) = ap natAbs y in
           let d : 1024 - shareAt t c 2 - shareAt t c 3 ≡ natAbs (getD (rq .path) (3 * c + 2) (pos 0)) = omega arith in
@@ -365,7 +369,8 @@ module _ (rq : Request) (fine : Composable rq) where
       triangle-read : (R : ℕ) → owing t (suc N) 0 m (l + m) 0 (ofGroup m (l + m)) 0 1 (stacked r (rq .surface)) R
           ≡ owing t (suc N) 0 m (l + m) 0 (ofGroup m (l + m)) 0 1 (netOf rq) R
       triangle-read R =
-          subst (λ n. owing t (suc N) 0 n (l + m) 0 (ofGroup m (l + m)) 0 1 (stacked r (rq .surface)) R ≡ owing t (suc N) 0 n (l + m) 0 (ofGroup m (l + m)) 0 1 (netOf rq) R) (sym no-later)
+          subst (λ n. owing t (suc N) 0 n (l + m) 0 (ofGroup m (l + m)) 0 1 (stacked r (rq .surface)) R ≡ owing t (suc N) 0 n (l + m) 0
+          (ofGroup m (l + m)) 0 1 (netOf rq) R) (sym no-later)
           (triangle-reads t (suc N) (l + m) 0 (ofGroup m (l + m)) 0 1 (stacked r (rq .surface)) (netOf rq) triangle-net R)
 
       pub triangle-owed : (R : ℕ) → owing t (suc N) 0 m (l + m) 0 (ofGroup m (l + m)) 0 1 (stacked r (rq .surface)) R ≡ numerator rq R
@@ -391,7 +396,7 @@ module _ (rq : Request) (fine : Composable rq) where
     triangle-formed no1 no2 n counted = record { curve = λ f. absurd (no1 f); triangle = λ a b. entries-are 2 n (no-second no2) counted }
 
     -- ---- what the code asks and leaves
-    module _ (sums : List ℤ) (se : sums ≡ replicate 26 (pos 0)) where
+    module _ (sums : List ℤ) (se : sums ≡ replicate 50 (pos 0)) where
       pub row-asks : Ready t (N + 1) 2 m r 0 (ofGroup m r) 0 1 sums
       row-asks = rw se (ready 2)
 
@@ -412,8 +417,8 @@ module _ (rq : Request) (fine : Composable rq) where
         pub triangle-asks : Ready t (N + 1) 0 0 r 0 r 0 1 sums
         triangle-asks =
             rw se
-            (subst (λ b. Ready t (N + 1) 0 0 r 0 b 0 1 (replicate 26 (pos 0))) (sym (all-of t (N + 1) r some))
-            (subst (λ k. Ready t (N + 1) 0 k r 0 (ofGroup k r) 0 1 (replicate 26 (pos 0))) (no-later no1 no2) (ready 0)))
+            (subst (λ b. Ready t (N + 1) 0 0 r 0 b 0 1 (replicate 50 (pos 0))) (sym (all-of t (N + 1) r some))
+            (subst (λ k. Ready t (N + 1) 0 k r 0 (ofGroup k r) 0 1 (replicate 50 (pos 0))) (no-later no1 no2) (ready 0)))
 
         pub triangle-leaves : (n : ℕ) (out : List ℤ)
             → Counted t (N + 1) 2 0 r 0 n × Gained sums out (owing t (N + 1) 0 0 r 0 r 0 1 (stacked r (rq .surface))) (duty t (N + 1) 0 0 r 0 r 1)
@@ -421,19 +426,27 @@ module _ (rq : Request) (fine : Composable rq) where
         triangle-leaves n out q =
             (done 0 (stacked r (rq .surface)) (triangle-owed no1 no2) out (again .1), triangle-formed no1 no2 n (again .0))
           where
-            again : Counted t (N + 1) 2 m r 0 n × Gained (replicate 26 (pos 0)) out (owing t (N + 1) 0 m r 0 (ofGroup m r) 0 1 (stacked r (rq .surface))) (duty t (N + 1) 0 m r 0 (ofGroup m r) 1)
+            again : Counted t (N + 1) 2 m r 0 n × Gained (replicate 50 (pos 0)) out
+                (owing t (N + 1) 0 m r 0 (ofGroup m r) 0 1 (stacked r (rq .surface))) (duty t (N + 1) 0 m r 0 (ofGroup m r) 1)
             again =
                 subst
-                (λ k. Counted t (N + 1) 2 k r 0 n × Gained (replicate 26 (pos 0)) out (owing t (N + 1) 0 k r 0 (ofGroup k r) 0 1 (stacked r (rq .surface))) (duty t (N + 1) 0 k r 0 (ofGroup k r) 1))
+                (λ k. Counted t (N + 1) 2 k r 0 n × Gained (replicate 50 (pos 0)) out
+                (owing t (N + 1) 0 k r 0 (ofGroup k r) 0 1 (stacked r (rq .surface))) (duty t (N + 1) 0 k r 0 (ofGroup k r) 1))
                 (sym (no-later no1 no2))
-                (subst (λ b. Counted t (N + 1) 2 0 r 0 n × Gained (replicate 26 (pos 0)) out (owing t (N + 1) 0 0 r 0 b 0 1 (stacked r (rq .surface))) (duty t (N + 1) 0 0 r 0 b 1))
+                (subst (λ b. Counted t (N + 1) 2 0 r 0 n × Gained (replicate 50 (pos 0)) out (owing t (N + 1) 0 0 r 0 b 0 1 (stacked r (rq .surface)))
+                (duty t (N + 1) 0 0 r 0 b 1))
                 (all-of t (N + 1) r some) (rw se at q))
 
   -- where there is no argument
-  pub first-asks : (sums : List ℤ) → sums ≡ replicate 26 (pos 0) → (v : ℤ) → natAbs v ≤ 4096 → (2 * 0 + 1 < length sums) × (natAbs v ≤ 2 ^ 52) × Room sums 1
-  first-asks sums se v few = rw se (rw (length-replicate 26 (pos 0)) (omega arith), omega arith, room-less (replicate 26 (pos 0)) (2 ^ 24) 1 (omega arith) (zeros-room 26))
+  pub first-asks : (sums : List ℤ) → sums ≡ replicate 50 (pos 0) → (v : ℤ) → natAbs v ≤ 4096 → (2 * 0 + 1 < length sums) × (natAbs v ≤ 2 ^ 52) × Room sums 1
+  first-asks sums se v few = rw se (
+    rw (length-replicate 50 (pos 0)) (omega arith),
+    omega arith,
+    room-less (replicate 50 (pos 0)) (2 ^ 24) 1
+        (omega arith) (zeros-room 50),
+  )
 
-  pub first-leaves : degree h ≡ 0 → (sums : List ℤ) → sums ≡ replicate 26 (pos 0) → (v : ℤ) → v ≡ getD (rq .surface) 0 (pos 0) → (out : List ℤ)
+  pub first-leaves : degree h ≡ 0 → (sums : List ℤ) → sums ≡ replicate 50 (pos 0) → (v : ℤ) → v ≡ getD (rq .surface) 0 (pos 0) → (out : List ℤ)
       → Gained sums out (only 0 (pos 1 *ℤ v)) 1 → Summed rq out × Formed h 0
   first-leaves zero-is sums se v e out gained = (finished out _ 1 (omega arith) (only-value zero-is v e) (rw se at gained), none-formed zero-is)
 

@@ -41,7 +41,8 @@ module _ (t : List ℕ) (count second r : ℕ) (sums : List ℤ) where
     one-done e q =
         rw e (
           q .0,
-          subst (λ b. Gained sums out (owing t count 2 second 1 0 b 0 1 (boxed (second + 1) surface)) (duty t count 2 second 1 0 b 1)) (sym (one-of t count 2 second))
+          subst (λ b. Gained sums out (owing t count 2 second 1 0 b 0 1 (boxed (second + 1) surface)) (duty t count 2 second 1 0 b 1))
+              (sym (one-of t count 2 second))
               (gained-as (box-reads t count second 1 0 1 0 1 _ _ (two-net surface _ second (in-front 2 0 (λ k. getD surface k (pos 0))))) refl (q .1)),
         )
 

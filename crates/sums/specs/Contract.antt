@@ -1,7 +1,7 @@
 -- The contract of `numerators`: what every place is worth is fixed, and so is the number of entries formed. Assumes nothing.
 use mathlib.Core.Path.{_≡_}
 use mathlib.Core.List.{List}
-use Prim.Native.Nat.{ℕ, _+_, _*_, _^_, _<_}
+use Prim.Native.Nat.{ℕ, _+_, _*_, _^_, _≤_}
 use lib.IntN.{ℤ, pos, natAbs}
 use lib.ListN.{length, getD}
 use Rattle.limbs.specs.Limbs.{worth}
@@ -15,11 +15,11 @@ use Rattle.runs.specs.Tree.{tree, entries}
 abbrev pub places : ℕ
 places = mostPoints
 
--- each place is worth its numerator, which is 0 past L, and can be put together in 64 bits
+-- each place is worth its numerator, which is 0 past L, and every limb is far below 2^63
 pub record Summed (rq : Request) (sums : List ℤ) : Type 0 where
   pub long : length sums ≡ 2 * places
   pub each : (R : ℕ) → worth sums R ≡ numerator rq R
-  pub fits : (R : ℕ) → natAbs (worth sums R) + 2 * natAbs (getD sums (2 * R + 1) (pos 0)) < 2 ^ 63
+  pub small : (k : ℕ) → natAbs (getD sums k (pos 0)) ≤ 2 ^ 56
 
 -- forms 1 and 3: as many entries were formed as the tree of runs has (02, ticket 7)
 pub record Formed (h : Head) (n : ℕ) : Type 0 where

@@ -19,7 +19,7 @@ ghost use Rattle.gather.specs.Owed.{ofGroup, owing, duty, Ready};
 ghost use Rattle.gather.specs.Formed.{Counted};
 ghost use Rattle.sums.specs.Filled.{termNumbers, Filled};
 ghost use Rattle.sums.specs.Loaded.{stacked, LoadedBox, LoadedTriangle};
-ghost use Rattle.sums.specs.Contract.{Summed, Formed};
+ghost use Rattle.sums.specs.Contract.{places, Summed, Formed};
 use request::Head;
 use steps::Three;
 use steps::Two;
@@ -72,7 +72,7 @@ fn store_term(t: &mut [u32; 40], c: usize, weight: u64, a: u64, b: u64)
 }
 
 // The terms of a ride: point c weighs N over c, its key is its number.
-fn fill(table: &[u32; 91], head: Head, path: &[i32], t: &mut [u32; 40])
+fn fill(table: &[u32; 325], head: Head, path: &[i32], t: &mut [u32; 40])
     requires { ⌜ Pascal (now table) × (notDegree head ≡ false) × GoodPath head (now path) × (length (now t) ≡ 40) ⌝ }
     ensures { λ _. ⌜ Filled head (now (path .entry)) (now (t .exit)) ⌝ }
 {
@@ -202,13 +202,13 @@ fn flat(head: Head) -> bool
 
 // The exact numerators of a request that document 01 accepts, added to places that are 0: the entries that were formed for it.
 pub fn numerators(
-    table: &[u32; 91],
+    table: &[u32; 325],
     head: Head,
     surface: &[i32],
     path: &[i32],
     sums: &mut [i64],
 ) -> u64
-    requires { ⌜ Pascal (now table) × Composable (record { head = head; surface = now surface; path = now path }) × (now sums ≡ replicate 26 (pos 0)) ⌝ }
+    requires { ⌜ Pascal (now table) × Composable (record { head = head; surface = now surface; path = now path }) × (now sums ≡ replicate (2 * places) (pos 0)) ⌝ }
     ensures { λ n. ⌜ Summed (record { head = head; surface = now (surface .entry); path = now (path .entry) }) (now (sums .exit)) × Formed head n ⌝ }
 {
     let r = request::degree(head) as usize;

@@ -8,6 +8,7 @@ use lib.Dec.{ltb, eqb}
 use lib.IntN.{ℤ}
 use lib.ListN.{length}
 use Rattle.request.specs.declared.Head.{Head}
+use Rattle.request.specs.Head.{mostPoints}
 use Rattle.words.specs.Words.{next, wordAt, because, leftOver, tooLong, isAge, ageOf}
 use Rattle.words.specs.declared.Cursor.{Cursor}
 use Rattle.numbers.specs.Numbers.{most, natural, headed, listed}
@@ -19,9 +20,9 @@ use Rattle.text.specs.declared.Aged.{Aged}
 abbrev pub longestLine : ℕ
 longestLine = 4096
 
--- the rooms where a line names none: the longest answer in both
+-- the rooms where a line names none: room for the longest answer
 abbrev pub ownRooms : Rooms
-ownRooms = record { given = false; exact = 13; points = 13 }
+ownRooms = record { given = false; exact = mostPoints; points = mostPoints }
 
 -- two rooms, unless no word is left or the next one is the age; one word alone is left over
 unfoldable pub roomed : List ℕ → Cursor → Roomed

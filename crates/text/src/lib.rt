@@ -59,8 +59,8 @@ fn read_rooms(line: &[u8], from: Cursor) -> Roomed
 {
     let own = Rooms {
         given: false,
-        exact: 13,
-        points: 13,
+        exact: request::MOST_POINTS,
+        points: request::MOST_POINTS,
     };
     let word = next(line, from);
     if word.wrong != 0 {

@@ -35,7 +35,13 @@ pub choose-sym : (n i k : ℕ) → i + k ≡ n → choose n i ≡ choose n k
 choose-sym n zero k h = rw (choose-zero, ← h, zero-add, choose-self)
 choose-sym n (suc i) zero h = rw (choose-zero, ← h, add-zero, choose-self)
 choose-sym zero (suc i) (suc k) h = choose-none i ∙ sym (choose-none k)
-choose-sym (suc n) (suc i) (suc k) h = rw (choose-pascal n i, choose-pascal n k, choose-sym n i (suc k) (omega arith), choose-sym n (suc i) k (omega arith)) (omega arith)
+choose-sym (suc n) (suc i) (suc k) h = rw (
+  choose-pascal n i,
+  choose-pascal n k,
+  choose-sym n i (suc k) (omega arith),
+  choose-sym n (suc i) k
+      (omega arith),
+) (omega arith)
 
 -- Pascal's rule under a sum of any length: each later coefficient splits in two, and the second parts, with the first term,
 -- make the whole sum at n
@@ -95,7 +101,8 @@ pub vandermonde : (m n R : ℕ) → sumOver R (λ i k. pos (choose m i) ⊗ pos 
 vandermonde m n zero = sum-zero (λ i k. pos (choose m i) ⊗ pos (choose n k)) ∙ rw (choose-zero m, choose-zero n, choose-zero (m + n), one-⊗)
 vandermonde zero n (suc R) =
     sum-suc R (λ i k. pos (choose 0 i) ⊗ pos (choose n k))
-    ∙ ap₂ _⊕_ (ap (λ c. pos c ⊗ pos (choose n (suc R))) (choose-zero 0)) (sum-cong R _ _ (λ i k. ap (λ c. pos c ⊗ pos (choose n k)) (choose-none i) ∙ zero-⊗ _) ∙ sum-none R)
+    ∙ ap₂ _⊕_ (ap (λ c. pos c ⊗ pos (choose n (suc R))) (choose-zero 0)) (sum-cong R _ _
+    (λ i k. ap (λ c. pos c ⊗ pos (choose n k)) (choose-none i) ∙ zero-⊗ _) ∙ sum-none R)
     ∙ rw (one-⊗, ⊕-zero, zero-add)
 vandermonde (suc m) n (suc R) = pascal-sum R m (λ i k. pos (choose n k)) ∙ rw (vandermonde m n R, vandermonde m n (suc R), suc-add, choose-pascal, pos-add)
 

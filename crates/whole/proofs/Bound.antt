@@ -52,11 +52,21 @@ pub ⊑-refl-pos : (n : ℕ) → pos n ⊑ pos n
 
 pub ⊑-add : {a b c d : ℤ} → a ⊑ b → c ⊑ d → a ⊕ c ⊑ b ⊕ d
 unfolding _⊕_
-⊑-add {a = a} {c = c} p q = record { bound = p .bound + q .bound; is = ap₂ _+ℤ_ (p .is) (q .is); within = le-trans (natAbs-add a c) (add-le-add (p .within) (q .within)) }
+⊑-add {a = a} {c = c} p q = record {
+  bound = p .bound + q .bound;
+  is = ap₂ _+ℤ_ (p .is) (q .is);
+  within = le-trans (natAbs-add a c)
+      (add-le-add (p .within) (q .within));
+}
 
 pub ⊑-mul : {a b c d : ℤ} → a ⊑ b → c ⊑ d → a ⊗ c ⊑ b ⊗ d
 unfolding _⊗_
-⊑-mul {a = a} {c = c} p q = record { bound = p .bound * q .bound; is = ap₂ _*ℤ_ (p .is) (q .is); within = le-trans (le-of-eq (natAbs-mul a c)) (mul-le-mul (p .within) (q .within)) }
+⊑-mul {a = a} {c = c} p q = record {
+  bound = p .bound * q .bound;
+  is = ap₂ _*ℤ_ (p .is) (q .is);
+  within = le-trans (le-of-eq (natAbs-mul a c))
+      (mul-le-mul (p .within) (q .within));
+}
 
 pub ⊑-scale : (c : ℕ) {x y : ℤ} → x ⊑ y → pos c ⊗ x ⊑ pos c ⊗ y
 ⊑-scale c h = ⊑-mul (⊑-refl-pos c) h

@@ -28,7 +28,7 @@ module _ (n : ℤ) (d : ℕ) (q : ℤ) (left : ℕ) (r : Divided n d q left) whe
         go (yes l) = rw (half l) (ap (onSideOf n) (half-up-only (natAbs n) d (natAbs q + 1) (omega arith)))
         go (no l) = rw (less (omega arith), add-zero (natAbs q)) (ap (onSideOf n) (half-up-only (natAbs n) d (natAbs q) (omega arith)))
 
-side-size : (n : ℤ) (x : ℕ) → natAbs (onSideOf n x) ≡ x
+pub side-size : (n : ℤ) (x : ℕ) → natAbs (onSideOf n x) ≡ x
 unfolding onSideOf
 side-size (pos a) x = refl
 side-size (negsuc a) x = natAbs-neg (pos x)

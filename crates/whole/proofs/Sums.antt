@@ -25,7 +25,8 @@ sum-cong n H J e = λ t. sumOver n (λ i k. e i k t)
 -- only the terms with i + k = n count
 pub sum-cong-on : (n : ℕ) (H J : ℕ → ℕ → ℤ) → ((i k : ℕ) → i + k ≡ n → H i k ≡ J i k) → sumOver n H ≡ sumOver n J
 sum-cong-on zero H J e = rw (sum-zero H, sum-zero J) (e 0 0 refl)
-sum-cong-on (suc n) H J e = rw (sum-suc n H, sum-suc n J) (ap₂ _⊕_ (e 0 (suc n) (zero-add _)) (sum-cong-on n _ _ (λ i k h. e (suc i) k (suc-add i k ∙ ap suc h))))
+sum-cong-on (suc n) H J e = rw (sum-suc n H, sum-suc n J) (ap₂ _⊕_ (e 0 (suc n) (zero-add _))
+    (sum-cong-on n _ _ (λ i k h. e (suc i) k (suc-add i k ∙ ap suc h))))
 
 pub sum-add : (n : ℕ) (H J : ℕ → ℕ → ℤ) → sumOver n (λ i k. H i k ⊕ J i k) ≡ sumOver n H ⊕ sumOver n J
 sum-add zero H J = rw (sum-zero (λ i k. H i k ⊕ J i k), sum-zero H, sum-zero J)

@@ -61,7 +61,7 @@ impl Longs {
             let Ok(asked) = read(&sample.line) else {
                 continue;
             };
-            let own = OWN_ROOM.max(25);
+            let own = OWN_ROOM;
             let (exact, points) = asked.rooms.unwrap_or((own, own));
             let low = match self.rng.below(8) {
                 0 => exact.saturating_sub(1),

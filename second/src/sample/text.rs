@@ -83,7 +83,7 @@ pub fn odd(rng: &mut Xorshift, asked: &Asked, turn: usize) -> (&'static str, Vec
             ("age 0 written", words.join(&b' '))
         }
         6 => {
-            words.extend([b"13".to_vec(), b"64".to_vec(), b"age=0".to_vec()]);
+            words.extend([b"25".to_vec(), b"64".to_vec(), b"age=0".to_vec()]);
             ("rooms and age 0 written", words.join(&b' '))
         }
         7 => ("carriage returns", words.join(&b"\r"[..])),
@@ -142,7 +142,7 @@ pub fn unreadable(rng: &mut Xorshift, asked: &Asked, turn: usize) -> (&'static s
         }
         7 => {
             words.push(b"64".to_vec());
-            words.push(b"13".to_vec());
+            words.push(b"25".to_vec());
             let far: [&[u8]; 4] = [b"-1", b"65", b"4294967309", b"x"];
             let at = words.len() - 1 - rng.below(2);
             ("room too far", at, rng.pick(&far))
@@ -152,7 +152,7 @@ pub fn unreadable(rng: &mut Xorshift, asked: &Asked, turn: usize) -> (&'static s
             return ("too few words", words.join(&b' '));
         }
         9 => {
-            words.extend(vec![b"13".to_vec(); rng.pick(&[1, 3])]);
+            words.extend(vec![b"25".to_vec(); rng.pick(&[1, 3])]);
             let far: [&[u8]; 11] = [
                 b"age=",
                 b"age=x",
@@ -169,7 +169,7 @@ pub fn unreadable(rng: &mut Xorshift, asked: &Asked, turn: usize) -> (&'static s
             ("age too far", words.len() - 1, rng.pick(&far))
         }
         10 => {
-            words.extend(vec![b"13".to_vec(); 4 + rng.below(3)]);
+            words.extend(vec![b"25".to_vec(); 4 + rng.below(3)]);
             return ("many words left over", words.join(&b' '));
         }
         11 => {
@@ -177,7 +177,7 @@ pub fn unreadable(rng: &mut Xorshift, asked: &Asked, turn: usize) -> (&'static s
             let mut count = asked.path.len() + 1;
             if rng.once_in(2) {
                 count -= 2;
-                words.extend(vec![b"13".to_vec(); 3]);
+                words.extend(vec![b"25".to_vec(); 3]);
             }
             words[count_at[1]] = count.to_string().into_bytes();
             return ("count and words differ", words.join(&b' '));
@@ -208,7 +208,7 @@ pub fn unreadable(rng: &mut Xorshift, asked: &Asked, turn: usize) -> (&'static s
             return ("age not marked, or not the last", words.join(&b' '));
         }
         14 => {
-            words.extend([b"13".to_vec(), b"13".to_vec(), b"13".to_vec()]);
+            words.extend([b"25".to_vec(), b"25".to_vec(), b"25".to_vec()]);
             return ("rooms and a number", words.join(&b' '));
         }
         _ => {

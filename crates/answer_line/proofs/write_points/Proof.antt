@@ -8,13 +8,13 @@ use Rattle.answer_line.proofs.write_points.Statement.{statement}
 use Rattle.answer_line.proofs.write_points.Tie as tie
 
 abbrev Inv-loop : tie.InvT-loop
-Inv-loop list out₀ at end₀ k₀ out end k = Listing list out₀ at out end k
+Inv-loop list out₀ at end₀ k₀ out end k = Listing 21 list out₀ at out end k
 
 abbrev μ-loop : tie.MeasureT-loop
 μ-loop list out₀ at end₀ k₀ out end k = length list - k
 
 loop-holds : tie.Need-loop-holds Inv-loop μ-loop
-loop-holds c = listing-none _ _ _
+loop-holds c = listing-none _ _ _ _
 
 travel-at-requires : tie.Need-travel-at-requires Inv-loop μ-loop
 travel-at-requires c κs = omega arith
@@ -36,14 +36,14 @@ loop-again c =
     let wrote = c .before .before in
     let units = wrote .before .before in
     let read = units .before in
-    listing-more _ _ _ _ _ _ (read .before .before .loop .inv) (read .before .loop-test .taken) _ _ (wrote .write-next .kept .1 .0)
+    listing-more _ _ _ _ _ _ _ (read .before .before .loop .inv) (read .before .loop-test .taken) _ _ (wrote .write-next .kept .1 .0)
     (rw (units .units-of .ensures ∙ read .travel-at .ensures) at (wrote .write-next .ensures))
 
 same-length : tie.Need-same-length Inv-loop μ-loop
 same-length c = omega arith
 
 returns : tie.Need-returns Inv-loop μ-loop
-returns c = listing-all _ _ _ _ _ _ (c .before .loop .inv) (c .loop-test .left)
+returns c = listing-all _ _ _ _ _ _ _ (c .before .loop .inv) (c .loop-test .left)
 
 pub write-points-spec : {M : Type 1} → statement M
 write-points-spec =

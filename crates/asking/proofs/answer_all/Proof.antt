@@ -66,7 +66,8 @@ returns-3 : tie.Need-returns-3
 returns-3 c =
     let told = c .before .before .before .before .before .before .before .before .before .before .before .before .before .before .before .before .before .before .read-all in
     rw (c .left3 .ensures)
-    (answered _ _ _ _ _ _ _ _ (told .ensures) (search needs) (told .kept .1 .1 .1 .0) _ _ true (last-newline _ _ _ _ _ (c .before .before .before .before .take-part .ensures))
+    (answered _ _ _ _ _ _ _ _ (told .ensures) (search needs) (told .kept .1 .1 .1 .0) _ _ true
+    (last-newline _ _ _ _ _ (c .before .before .before .before .take-part .ensures))
     (λ e f. refl))
 
 pub answer-all-spec : {M : Type 1} → statement M

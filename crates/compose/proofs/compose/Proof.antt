@@ -1,44 +1,55 @@
--- `compose::compose` meets its contract: a refusal leaves both arrays; an acceptance writes the numerators, which are
--- document 01's, and each of them rounded. Assumes nothing.
+-- `compose::compose` meets its contract: a refusal leaves the three arrays; an acceptance writes the words of the numerators,
+-- which are document 01's, and each of them rounded. Assumes nothing.
 use mathlib.Core.Path.{refl, sym, ap, _∙_}
-use native.Mathlib.Omega.{arith}
-use lib.ListN.{length}
 use borrow.Author.Needs.{needs}
-use Rattle.request.specs.Request.{Request}
+use Rattle.request.specs.Request.{Request, requestOf}
 use Rattle.request.proofs.Accepted.{accepts}
 use Rattle.net.specs.Sizes.{Composable}
-use Rattle.compose.proofs.Entry.{refused-result, composable, Room, room-for, points-at, accepted-result}
+use Rattle.compose.specs.Afterwards.{Arrays, arrays, roomsOf}
+use Rattle.compose.proofs.Entry.{refused-result, composable, Granted, granted, points-at, accepted-result}
 use Rattle.compose.proofs.compose.Statement.{statement}
 use Rattle.compose.proofs.compose.Tie as tie
 
 abbrev rq : tie.Start → Request
-rq s = record { head = s .args .head; surface = s .args .surface .now; path = s .args .path .now }
+rq s = requestOf (s .args .head) (s .args .surface .now) (s .args .path .now)
+
+abbrev lent : tie.Start → Arrays
+lent s = arrays (s .args .high .now) (s .args .low .now) (s .args .points .now)
 
 -- where the request is accepted: from where the function begins, and from behind each call
+abbrev judged : tie.Else1 → tie.After-judge
+judged c = c .before .before
+
 abbrev begun : tie.Else1 → tie.Start
-begun c = c .before .before .before
+begun c = judged c .before .before
+
+abbrev counted : tie.After-write-all-arg3 → tie.After-degree
+counted c = c .before .before .before .before .before
+
+abbrev formed : tie.After-write-all-arg3 → tie.After-numerators
+formed c = counted c .before .before
 
 abbrev accepted : tie.After-numerators → tie.Else1
 accepted c = c .before .before .before .before
-
-abbrev summed : tie.After-write-arg2 → tie.After-numerators
-summed c = c .before .before .before .before .before .before
 
 -- what the judgement says there
 fine : (c : tie.Else1) → Composable (rq (begun c))
 fine c =
     let s = begun c in
-    let zero-is = ap (λ a. a .number) (sym (c .before .before .judge .ensures)) ∙ c .if1 .left in
-    composable (rq s) (s .args .age .0) _ _ (accepts (rq s) (s .args .age .0) (length (s .args .exact .now)) (length (s .args .points .now)) zero-is)
+    let zero-is = ap (λ a. a .number) (sym (judged c .judge .ensures)) ∙ c .if1 .left in
+    composable (rq s) (s .args .age .0) _ (accepts (rq s) (s .args .age .0) (roomsOf (lent s)) zero-is)
 
-room : (c : tie.Else1) → Room (rq (begun c)) (length (begun c .args .exact .now)) (length (begun c .args .points .now)) (c .before .before .judge .result .count)
-room c = room-for (rq (begun c)) (begun c .args .age .0) _ _ (c .before .before .judge .result) (c .before .before .judge .ensures) (c .if1 .left)
+room : (c : tie.Else1) → Granted (rq (begun c)) (lent (begun c)) (judged c .judge .result .count)
+room c = granted (rq (begun c)) (begun c .args .age .0) (lent (begun c)) (judged c .judge .result) (judged c .judge .ensures) (c .if1 .left)
 
 judge-requires : tie.Need-judge-requires
 judge-requires c κs = search needs
 
 returns : tie.Need-returns
-returns c = refused-result (rq (c .before .before .before)) _ _ _ _ (c .before .before .judge .ensures) (c .if1 .taken)
+returns c =
+    let j = c .before .before in
+    let s = j .before .before in
+    refused-result (rq s) _ (lent s) _ (j .judge .ensures) (c .if1 .taken)
 
 table-requires : tie.Need-table-requires
 table-requires c κs = search needs
@@ -52,19 +63,17 @@ numerators-requires c κs = (c .before .before .table .ensures, fine (c .before 
 degree-requires : tie.Need-degree-requires
 degree-requires c κs = search needs
 
-slice-aggregate-write : tie.Need-slice-aggregate-write
-slice-aggregate-write c = search needs
+slice-aggregate-write-all : tie.Need-slice-aggregate-write-all
+slice-aggregate-write-all c = search needs
 
-write-requires : tie.Need-write-requires
-write-requires c κs =
-    let n = summed c in
+write-all-requires : tie.Need-write-all-requires
+write-all-requires c κs =
+    let n = formed c in
     let o = accepted n in
     let r = room o in (
       n .before .before .before .table .ensures,
-      let i = r .is in omega arith,
-      r .exact-room,
-      r .points-room,
-      points-at (rq (begun o)) _ _ _ (fine o) (n .numerators .ensures .0) (c .before .before .before .before .degree .ensures) (r .is) (r .most),
+      points-at (rq (begun o)) _ _ _ (fine o) (n .numerators .ensures .0) (counted c .degree .ensures) (r .is) (r .most),
+      r .enough,
     )
 
 same-length : tie.Need-same-length
@@ -73,13 +82,16 @@ same-length c = search needs
 same-length-2 : tie.Need-same-length-2
 same-length-2 c = search needs
 
+same-length-3 : tie.Need-same-length-3
+same-length-3 c = search needs
+
 returns-2 : tie.Need-returns-2
 returns-2 c =
-    let w = c .before .before .before in
-    let n = summed w in
+    let w = c .before .before .before .before in
+    let n = formed (w .before) in
     let o = accepted n in
-    accepted-result (rq (begun o)) _ _ _ (fine o) (n .numerators .ensures .0) (w .before .before .before .before .degree .ensures) (room o .is)
-    _ _ _ _ (o .before .before .judge .ensures) refl _ _ (c .before .before .write .ensures)
+    accepted-result (rq (begun o)) _ _ _ (fine o) (n .numerators .ensures .0) (counted (w .before) .degree .ensures) (room o .is)
+    _ (lent (begun o)) _ (judged o .judge .ensures) refl _ (w .write-all .ensures)
 
 pub compose-spec : {M : Type 1} → statement M
 compose-spec =
@@ -91,8 +103,9 @@ compose-spec =
     slice-aggregate-numerators
     numerators-requires
     degree-requires
-    slice-aggregate-write
-    write-requires
+    slice-aggregate-write-all
+    write-all-requires
     same-length
     same-length-2
+    same-length-3
     returns-2)

@@ -5,10 +5,12 @@ use native.Mathlib.Nat.{mul-pos, one-le-pow}
 use native.Mathlib.Omega.{arith}
 use lib.IntN.{ℤ, natAbs}
 use Rattle.whole.specs.Choose.{choose}
+use Rattle.whole.specs.Round.{nearest}
 use Rattle.whole.proofs.Rounding.{nearest-size}
 use Rattle.pascal.proofs.Entries.{entry-in, entry-bound}
 use Rattle.net.proofs.Rounded.{choose-some}
-use Rattle.compose.specs.Contract.{roundedAt, PointAt}
+use Rattle.two_words.specs.Words.{twoWords}
+use Rattle.compose.specs.Contract.{PointAt}
 use Rattle.compose.proofs.rounded.Statement.{statement}
 use Rattle.compose.proofs.rounded.Tie as tie
 
@@ -19,8 +21,7 @@ some L R h = let e : R + (L - R) ≡ L = omega arith in subst (λ n. 0 < choose 
 read : (c : tie.After-binomial) → c .binomial .result ≡ choose (c .before .args .L) (c .before .args .R)
 read c = c .binomial .ensures ∙ entry-in (c .before .args .L) (c .before .args .R) (c .before .pre .1 .row)
 
-travels : (n : ℤ) (L r R : ℕ) → PointAt n L r R → natAbs (roundedAt n L r R) ≤ 4096
-unfolding roundedAt
+travels : (n : ℤ) (L r R : ℕ) → PointAt n L r R → natAbs (nearest n (choose L R * 1024 ^ r)) ≤ 4096
 travels n L r R p = nearest-size n (choose L R * 1024 ^ r) 4096 (mul-pos (some L R (p .here)) (one-le-pow r 1024 (omega arith))) (p .within)
 
 binomial-requires : tie.Need-binomial-requires
@@ -32,12 +33,14 @@ rounded-requires c κs =
     record {
       few = p .few;
       some = rw (read c) (some _ _ (p .here));
-      most = rw (c .binomial .ensures) (entry-bound _ _);
+      most = rw (c .binomial .ensures) (omega (arith, entry-bound (c .before .args .L) (c .before .args .R)));
       within = rw (read c) (p .within);
     }
 
-value : (c : tie.After-rounded) → c .rounded .result .0 ≡ roundedAt (c .before .before .args .n .0) (c .before .before .args .L) (c .before .before .args .r) (c .before .before .args .R)
-unfolding roundedAt
+value : (c : tie.After-rounded)
+    → c .rounded .result .0
+    ≡ nearest (twoWords (c .before .before .args .n .high .0) (c .before .before .args .n .low))
+    (choose (c .before .before .args .L) (c .before .before .args .R) * 1024 ^ c .before .before .args .r)
 value c = c .rounded .ensures ∙ rw (read (c .before))
 
 travel-of-requires : tie.Need-travel-of-requires
@@ -47,10 +50,4 @@ returns : tie.Need-returns
 returns c = c .travel-of .ensures ∙ value (c .before)
 
 pub rounded-spec : {M : Type 1} → statement M
-rounded-spec =
-    tie.close
-    (tie.spec
-    binomial-requires
-    rounded-requires
-    travel-of-requires
-    returns)
+rounded-spec = tie.close (tie.spec binomial-requires rounded-requires travel-of-requires returns)

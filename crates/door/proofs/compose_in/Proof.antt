@@ -1,10 +1,12 @@
 -- `door::compose_in` meets its contract: the arrays have room, and what is read into them is the request of the record.
 -- Assumes nothing.
-use mathlib.Core.Path.{_≡_, refl, sym}
-use Prim.Native.Nat.{_≤_}
+use mathlib.Core.Path.{_≡_, sym, ap}
+use Prim.Native.Nat.{ℕ, _≤_}
 use native.Mathlib.Omega.{arith}
 use lib.ListN.{length}
 use lib.Seq.{length-take-le}
+use Rattle.request.specs.declared.Rooms.{Rooms}
+use Rattle.request.specs.Head.{mostPoints}
 use Rattle.judgement.specs.Record.{pathStart, bodyEnd}
 use Rattle.judgement.proofs.Sizes.{surface-most, path-most, start-most}
 use Rattle.door.proofs.Composing.{request-read, composed-given}
@@ -23,7 +25,7 @@ path-holds : (c : tie.After-read-numbers2)
     → c .before .before .before .before .before .path-count .result ≤ length (c .read-numbers2 .last .1 .1 .1 .0)
 path-holds c =
     let start = c .before .before .before .before .before .before .before .before in
-    let long : length (c .read-numbers2 .last .1 .1 .1 .0) ≡ 12 = c .read-numbers2 .kept .1 .1 .1 .0 in
+    let long : length (c .read-numbers2 .last .1 .1 .1 .0) ≡ 21 = c .read-numbers2 .kept .1 .1 .1 .0 in
     omega (arith, path-most (start .args .head) (start .pre .0 .small), c .before .before .before .before .before .path-count .ensures)
 
 surface-count-requires : tie.Need-surface-count-requires
@@ -76,24 +78,32 @@ slice-aggregate-compose-2 c = sym (length-take-le _ _ (path-holds (c .before .be
 slice-aggregate-compose-3 : tie.Need-slice-aggregate-compose-3
 slice-aggregate-compose-3 c = search needs
 
+slice-aggregate-compose-4 : tie.Need-slice-aggregate-compose-4
+slice-aggregate-compose-4 c = search needs
+
 compose-requires : tie.Need-compose-requires
 compose-requires c κs = search needs
 
 same-length : tie.Need-same-length
 same-length c = search needs
 
+-- the rooms of the arrays that are lent to the composer
+abbrev with-points : ℕ → Rooms
+with-points n = record { high = mostPoints; low = mostPoints; points = n }
+
 returns : tie.Need-returns
 returns c =
-    let called = c .before .before in
-    let path-read = called .before .before .before .before .before .before in
+    let called = c .before .before .before in
+    let path-read = called .before .before .before .before .before .before .before in
     let surface-read = path-read .before .before .before in
     let start = surface-read .before .before .before .before .before in
     let counted = surface-read .before .before in
     let request = request-read (start .args .request .now) (start .args .from) _ (start .args .head) _ _ _ _ _ _
     (start .pre .0 .read) (counted .before .surface-count .ensures) (counted .path-count .ensures)
     (surface-read .read-numbers .ensures) (path-read .read-numbers2 .ensures) in
-    composed-given (start .args .request .now) _ _ _ _ _ _ _ request (start .pre .0 .read .age-is) refl (start .pre .1)
-    (called .compose .ensures)
+    let rooms : length (start .args .points .now) ≡ mostPoints = start .pre .1 in
+    composed-given (start .args .request .now) _ _ _ _ _ request (start .pre .0 .read .age-is)
+    (ap with-points rooms) (called .compose .ensures)
 
 pub compose-in-spec : {M : Type 1} → statement M
 compose-in-spec =
@@ -112,6 +122,7 @@ compose-in-spec =
     array-share-prefix-path
     slice-aggregate-compose-2
     slice-aggregate-compose-3
+    slice-aggregate-compose-4
     compose-requires
     same-length
     returns)

@@ -14,7 +14,7 @@ use Rattle.door.proofs.door_reply.Tie as tie
 -- the count is within the places that were lent
 counted : (c : tie.After-judge-record) → c .judge-record .result .count ≤ length (c .judge-record .last .1 .0)
 counted c =
-    let long : length (c .judge-record .last .1 .0) ≡ 13 = c .judge-record .kept .1 .0 in
+    let long : length (c .judge-record .last .1 .0) ≡ 25 = c .judge-record .kept .1 .0 in
     rw (c .judge-record .ensures .answered, long) (judged-fits _ .few)
 
 returns : tie.Need-returns

@@ -1,13 +1,14 @@
 -- `exports::lean_compose` meets its contract: the composer's own, with the answer in three words. Assumes nothing.
 use borrow.Author.Needs.{needs}
 use native.Mathlib.Omega.{arith}
+use Rattle.compose.specs.Afterwards.{arrays}
 use Rattle.exports.specs.Exported.{requestOf}
 use Rattle.exports.proofs.Crossed.{untouched, answered}
 use Rattle.exports.proofs.lean_compose.Statement.{statement}
 use Rattle.exports.proofs.lean_compose.Tie as tie
 
 returns : tie.Need-returns
-returns c = untouched _ _ _ _ _ (omega arith)
+returns c = untouched _ _ _ _ (omega arith)
 
 compose-requires : tie.Need-compose-requires
 compose-requires c κs = search needs
@@ -33,14 +34,19 @@ same-length-2 c = search needs
 same-length-3 : tie.Need-same-length-3
 same-length-3 c = search needs
 
+same-length-4 : tie.Need-same-length-4
+same-length-4 c = search needs
+
 returns-2 : tie.Need-returns-2
 returns-2 c =
     let third = c .before .before in
     let second = third .before .before .before .before in
     let first = second .before .before .before .before in
-    let called = first .before .before .before .before .before in
-    let args = called .before .before .before .before .before .args in
-    answered (requestOf (args .form) (args .first) (args .second) (args .N) (args .surface .now) (args .path .now)) _ _ _ _ _ _ _ _ _ _ _ (omega arith) (called .compose .ensures) (first .before .wide .ensures) (first .put .ensures) (second .put2 .ensures) (third .put3 .ensures)
+    let called = first .before .before .before .before .before .before .before in
+    let args = called .before .before .before .before .before .before .before .args in
+    let rq = requestOf (args .form) (args .first) (args .second) (args .N) (args .surface .now) (args .path .now) in
+    answered rq _ (arrays (args .high .now) (args .low .now) (args .points .now)) _ _ _ _ _ _ _ (omega arith) (called .compose .ensures)
+    (first .before .wide .ensures) (first .put .ensures) (second .put2 .ensures) (third .put3 .ensures)
 
 pub lean-compose-spec : {M : Type 1} → statement M
 lean-compose-spec =
@@ -55,4 +61,5 @@ lean-compose-spec =
     same-length
     same-length-2
     same-length-3
+    same-length-4
     returns-2)

@@ -84,7 +84,8 @@ callees t = (
 abbrev gather-row-Inv-loop : gather-row-lts.InvT-loop
 gather-row-Inv-loop t count second left from begun s weight sums₀ net turn g here apart closed c₀ b₀ w₀ n₀ sums c b w n =
     (c ≤ count) × Counting t count 1 second (left - 1) from c n
-    × Sofar (readAt t count second left) (restAt t count second left) (termsOf t count (groupAt 2 second left)) (ofGroup second left) from begun weight s (boxed (second + 1) net) sums₀ closed c b w sums
+    × Sofar (readAt t count second left) (restAt t count second left) (termsOf t count (groupAt 2 second left)) (ofGroup second left) from begun
+    weight s (boxed (second + 1) net) sums₀ closed c b w sums
 
 abbrev gather-row-μ-loop : gather-row-lts.MeasureT-loop
 gather-row-μ-loop t count second left from begun s weight sums₀ net turn g here apart closed c₀ b₀ w₀ n₀ sums c b w n = count - c
@@ -92,13 +93,16 @@ gather-row-μ-loop t count second left from begun s weight sums₀ net turn g he
 one-fewer : (n : ℕ) → 1 < n → n ≡ suc (n - 1)
 one-fewer n some = omega arith
 
-abbrev first : (t : ℕ) → gather-row-lts.In-loop (callees t) (gather-row-at t) gather-row.Post gather-row-Inv-loop gather-row-μ-loop → gather-row-lts.Start (callees t) (gather-row-at t) gather-row.Post gather-row-Inv-loop gather-row-μ-loop
+abbrev first : (t : ℕ) → gather-row-lts.In-loop (callees t) (gather-row-at t) gather-row.Post gather-row-Inv-loop gather-row-μ-loop
+    → gather-row-lts.Start (callees t) (gather-row-at t) gather-row.Post gather-row-Inv-loop gather-row-μ-loop
 first t i = i .before .before .before .before .before .before
 
-abbrev turning : (t : ℕ) → gather-row-lts.After-weight-of (callees t) (gather-row-at t) gather-row.Post gather-row-Inv-loop gather-row-μ-loop → gather-row-lts.In-loop (callees t) (gather-row-at t) gather-row.Post gather-row-Inv-loop gather-row-μ-loop
+abbrev turning : (t : ℕ) → gather-row-lts.After-weight-of (callees t) (gather-row-at t) gather-row.Post gather-row-Inv-loop gather-row-μ-loop
+    → gather-row-lts.In-loop (callees t) (gather-row-at t) gather-row.Post gather-row-Inv-loop gather-row-μ-loop
 turning t v = v .before .before .before .before .before
 
-fewer : (t : ℕ) (i : gather-row-lts.In-loop (callees t) (gather-row-at t) gather-row.Post gather-row-Inv-loop gather-row-μ-loop) → first t i .args .left ≡ suc (first t i .args .left - 1)
+fewer : (t : ℕ) (i : gather-row-lts.In-loop (callees t) (gather-row-at t) gather-row.Post gather-row-Inv-loop gather-row-μ-loop)
+    → first t i .args .left ≡ suc (first t i .args .left - 1)
 fewer t i = one-fewer _ (first t i .pre .1 .0)
 
 -- the same with the arguments left otherwise written
@@ -120,14 +124,17 @@ gather-row-sub-turn t c = let p = c .pre .1 .0 in omega arith
 gather-row-group-requires : (t : ℕ) → gather-row-lts.Need-group-requires (callees t) (gather-row-at t) gather-row.Post gather-row-Inv-loop gather-row-μ-loop
 gather-row-group-requires t c κs = search needs
 
-gather-row-of-group-requires : (t : ℕ) → gather-row-lts.Need-of-group-requires (callees t) (gather-row-at t) gather-row.Post gather-row-Inv-loop gather-row-μ-loop
+gather-row-of-group-requires : (t : ℕ)
+    → gather-row-lts.Need-of-group-requires (callees t) (gather-row-at t) gather-row.Post gather-row-Inv-loop gather-row-μ-loop
 gather-row-of-group-requires t c κs = search needs
 
 gather-row-gap-requires : (t : ℕ) → gather-row-lts.Need-gap-requires (callees t) (gather-row-at t) gather-row.Post gather-row-Inv-loop gather-row-μ-loop
 gather-row-gap-requires t c κs = c .before .before .pre .1 .1 .total
 
-gather-row-arrangements-requires : (t : ℕ) → gather-row-lts.Need-arrangements-requires (callees t) (gather-row-at t) gather-row.Post gather-row-Inv-loop gather-row-μ-loop
-gather-row-arrangements-requires t c κs = let r = c .before .before .before .pre .1 .1 in (r .able .few, open-here _ _ _ _ _ _ _ _ _ _ r _ (c .before .of-group .ensures))
+gather-row-arrangements-requires : (t : ℕ)
+    → gather-row-lts.Need-arrangements-requires (callees t) (gather-row-at t) gather-row.Post gather-row-Inv-loop gather-row-μ-loop
+gather-row-arrangements-requires t c κs = let r = c .before .before .before .pre .1 .1 in
+    (r .able .few, open-here _ _ _ _ _ _ _ _ _ _ r _ (c .before .of-group .ensures))
 
 gather-row-mul-closed : (t : ℕ) → gather-row-lts.Need-mul-closed (callees t) (gather-row-at t) gather-row.Post gather-row-Inv-loop gather-row-μ-loop
 gather-row-mul-closed t c =
@@ -136,8 +143,12 @@ gather-row-mul-closed t c =
 
 gather-row-loop-holds : (t : ℕ) → gather-row-lts.Need-loop-holds (callees t) (gather-row-at t) gather-row.Post gather-row-Inv-loop gather-row-μ-loop
 gather-row-loop-holds t c =
-    let r = c .before .before .before .before .pre .1 .1 in
-    (let h = r .able .here in omega arith, none-yet _ _ _ _ _ _, start _ _ _ _ _ _ _ _ _ _ r _ _ _ (c .before .before .of-group .ensures) (c .arrangements .ensures .0))
+    let r = c .before .before .before .before .pre .1 .1 in (
+      let h = r .able .here in omega arith,
+      none-yet _ _ _ _ _ _,
+      start _ _ _ _ _ _ _ _ _ _ r _ _ _ (c .before .before .of-group .ensures)
+          (c .arrangements .ensures .0),
+    )
 
 gather-row-share-requires : (t : ℕ) → gather-row-lts.Need-share-requires (callees t) (gather-row-at t) gather-row.Post gather-row-Inv-loop gather-row-μ-loop
 gather-row-share-requires t c κs = let n = first t c .pre .1 .1 .able .good .few in (omega arith, c .before .before .before .before .before .group .ensures .1)
@@ -145,7 +156,8 @@ gather-row-share-requires t c κs = let n = first t c .pre .1 .1 .able .good .fe
 gather-row-chosen-requires : (t : ℕ) → gather-row-lts.Need-chosen-requires (callees t) (gather-row-at t) gather-row.Post gather-row-Inv-loop gather-row-μ-loop
 gather-row-chosen-requires t c κs = search needs
 
-gather-row-chosen-requires-2 : (t : ℕ) → gather-row-lts.Need-chosen-requires-2 (callees t) (gather-row-at t) gather-row.Post gather-row-Inv-loop gather-row-μ-loop
+gather-row-chosen-requires-2 : (t : ℕ)
+    → gather-row-lts.Need-chosen-requires-2 (callees t) (gather-row-at t) gather-row.Post gather-row-Inv-loop gather-row-μ-loop
 gather-row-chosen-requires-2 t c κs = search needs
 
 gather-row-key-requires : (t : ℕ) → gather-row-lts.Need-key-requires (callees t) (gather-row-at t) gather-row.Post gather-row-Inv-loop gather-row-μ-loop
@@ -154,33 +166,45 @@ gather-row-key-requires t c κs = let n = first t (c .before .before .before) .p
 gather-row-add-place : (t : ℕ) → gather-row-lts.Need-add-place (callees t) (gather-row-at t) gather-row.Post gather-row-Inv-loop gather-row-μ-loop
 gather-row-add-place t c =
     let i = c .before .before .before .before in
-    let p = place _ _ _ _ _ _ _ _ _ _ (first t i .pre .1 .1) _ _ (fewer t i) _ _ _ _ _ (i .before .loop .inv .2) (i .loop-test .taken) _ _ (c .key .ensures) refl in
+    let p = place _ _ _ _ _ _ _ _ _ _ (first t i .pre .1 .1) _ _ (fewer t i) _ _ _ _ _ (i .before .loop .inv .2) (i .loop-test .taken) _ _
+    (c .key .ensures) refl in
     let long = i .before .loop .inv .2 .toward .long in
     let q = first t i .good .1 .1 .1 .1 .1 .1 .1 .1 .1 .0 in
     omega arith
 
-gather-row-weight-of-requires : (t : ℕ) → gather-row-lts.Need-weight-of-requires (callees t) (gather-row-at t) gather-row.Post gather-row-Inv-loop gather-row-μ-loop
+gather-row-weight-of-requires : (t : ℕ)
+    → gather-row-lts.Need-weight-of-requires (callees t) (gather-row-at t) gather-row.Post gather-row-Inv-loop gather-row-μ-loop
 gather-row-weight-of-requires t c κs = let n = first t (c .before .before .before .before) .pre .1 .1 .able .good .few in omega arith
 
 gather-row-mul-v : (t : ℕ) → gather-row-lts.Need-mul-v (callees t) (gather-row-at t) gather-row.Post gather-row-Inv-loop gather-row-μ-loop
 gather-row-mul-v t c =
     let i = c .before .before .before .before .before in
-    let p = next-small _ _ _ _ _ _ _ _ _ _ (first t i .pre .1 .1) _ _ (fewer t i) _ _ _ _ _ (i .before .loop .inv .2) (i .loop-test .taken) _ _ (c .before .key .ensures) (c .weight-of .ensures) in
+    let p = next-small _ _ _ _ _ _ _ _ _ _ (first t i .pre .1 .1) _ _ (fewer t i) _ _ _ _ _ (i .before .loop .inv .2) (i .loop-test .taken) _ _
+    (c .before .key .ensures) (c .weight-of .ensures) in
     omega arith
 
-gather-row-row-four-requires : (t : ℕ) → gather-row-lts.Need-row-four-requires (callees t) (gather-row-at t) gather-row.Post gather-row-Inv-loop gather-row-μ-loop
+gather-row-row-four-requires : (t : ℕ)
+    → gather-row-lts.Need-row-four-requires (callees t) (gather-row-at t) gather-row.Post gather-row-Inv-loop gather-row-μ-loop
 gather-row-row-four-requires t c κs =
     let v = c .before .before in
-    let i = turning t v in
-    (inside-here _ _ _ _ _ _ _ (first t i .pre .1 .2) (i .loop-test .taken) (i .before .before .before .before .before .group .ensures .0) (v .before .before .before .before .share .ensures), let p = i .before .before .before .gap .ensures .1 in omega arith, small-low _ _ (let p = first t i .pre .1 .0 in omega arith) (first t i .pre .1 .1 .total) (first t i .pre .1 .3))
+    let i = turning t v in (
+      inside-here _ _ _ _ _ _ _ (first t i .pre .1 .2) (i .loop-test .taken) (i .before .before .before .before .before .group .ensures .0)
+          (v .before .before .before .before .share .ensures),
+      let p = i .before .before .before .gap .ensures .1 in omega arith,
+      small-low _ _
+          (let p = first t i .pre .1 .0 in omega arith) (first t i .pre .1 .1 .total) (first t i .pre .1 .3),
+    )
 
-gather-row-pair-row-requires : (t : ℕ) → gather-row-lts.Need-pair-row-requires (callees t) (gather-row-at t) gather-row.Post gather-row-Inv-loop gather-row-μ-loop
+gather-row-pair-row-requires : (t : ℕ)
+    → gather-row-lts.Need-pair-row-requires (callees t) (gather-row-at t) gather-row.Post gather-row-Inv-loop gather-row-μ-loop
 gather-row-pair-row-requires t c κs =
     let q = c .before .row-four .ensures in
     let e = c .before .before .before .if1 .taken in
     let v = c .before .before .before .before in
     let i = turning t v in (
-      next-ready _ _ _ _ _ _ _ _ _ _ (first t i .pre .1 .1) _ 2 e _ _ _ _ _ (i .before .loop .inv .2) (i .loop-test .taken) _ _ (v .before .key .ensures) (v .weight-of .ensures) _ (ap (λ n. eqb (n - 1) (first t i .args .second)) e) _ _ (v .before .before .before .chosen .ensures) (v .before .before .chosen2 .ensures),
+      next-ready _ _ _ _ _ _ _ _ _ _ (first t i .pre .1 .1) _ 2 e _ _ _ _ _ (i .before .loop .inv .2) (i .loop-test .taken) _ _
+          (v .before .key .ensures) (v .weight-of .ensures) _ (ap (λ n. eqb (n - 1) (first t i .args .second)) e) _ _
+          (v .before .before .before .chosen .ensures) (v .before .before .chosen2 .ensures),
       first t i .pre .1 .2,
       small-up _ 2 (omega arith) (q .most (entryMost 3) (re-small e (first t i .pre .1 .3))),
     )
@@ -188,16 +212,24 @@ gather-row-pair-row-requires t c κs =
 gather-row-row-two-requires : (t : ℕ) → gather-row-lts.Need-row-two-requires (callees t) (gather-row-at t) gather-row.Post gather-row-Inv-loop gather-row-μ-loop
 gather-row-row-two-requires t c κs =
     let v = c .before .before .before in
-    let i = turning t v in
-    (inside-here _ _ _ _ _ _ _ (first t i .pre .1 .2) (i .loop-test .taken) (i .before .before .before .before .before .group .ensures .0) (v .before .before .before .before .share .ensures), let p = i .before .before .before .gap .ensures .1 in omega arith, small-low _ _ (let p = first t i .pre .1 .0 in omega arith) (first t i .pre .1 .1 .total) (first t i .pre .1 .3))
+    let i = turning t v in (
+      inside-here _ _ _ _ _ _ _ (first t i .pre .1 .2) (i .loop-test .taken) (i .before .before .before .before .before .group .ensures .0)
+          (v .before .before .before .before .share .ensures),
+      let p = i .before .before .before .gap .ensures .1 in omega arith,
+      small-low _ _
+          (let p = first t i .pre .1 .0 in omega arith) (first t i .pre .1 .1 .total) (first t i .pre .1 .3),
+    )
 
-gather-row-last-row-requires : (t : ℕ) → gather-row-lts.Need-last-row-requires (callees t) (gather-row-at t) gather-row.Post gather-row-Inv-loop gather-row-μ-loop
+gather-row-last-row-requires : (t : ℕ)
+    → gather-row-lts.Need-last-row-requires (callees t) (gather-row-at t) gather-row.Post gather-row-Inv-loop gather-row-μ-loop
 gather-row-last-row-requires t c κs =
     let q = c .before .row-two .ensures in
     let e = c .before .before .before .if2 .taken in
     let v = c .before .before .before .before .before in
     let i = turning t v in (
-      next-ready _ _ _ _ _ _ _ _ _ _ (first t i .pre .1 .1) _ 1 e _ _ _ _ _ (i .before .loop .inv .2) (i .loop-test .taken) _ _ (v .before .key .ensures) (v .weight-of .ensures) _ (ap (λ n. eqb (n - 1) (first t i .args .second)) e) _ _ (v .before .before .before .chosen .ensures) (v .before .before .chosen2 .ensures),
+      next-ready _ _ _ _ _ _ _ _ _ _ (first t i .pre .1 .1) _ 1 e _ _ _ _ _ (i .before .loop .inv .2) (i .loop-test .taken) _ _
+          (v .before .key .ensures) (v .weight-of .ensures) _ (ap (λ n. eqb (n - 1) (first t i .args .second)) e) _ _
+          (v .before .before .before .chosen .ensures) (v .before .before .chosen2 .ensures),
       first t i .pre .1 .2,
       small-up _ 1 (omega arith) (q .most (entryMost 2) (re-small e (first t i .pre .1 .3))),
     )
@@ -210,27 +242,44 @@ gather-row-mul-slid : (t : ℕ) → gather-row-lts.Need-mul-slid (callees t) (ga
 gather-row-mul-slid t c =
     let v = c .before .before .before in
     let i = turning t v in
-    record { fits = omega (arith, size-most _ _ _ _ (four _ (first t i .pre .1 .0) (first t i .pre .1 .1 .total) (c .before .before .if1 .left) (c .before .if2 .left)) (i .before .before .before .before .of-group .ensures) (i .before .before .before .gap .ensures .0)) }
+    record {
+      fits = omega (
+        arith,
+        size-most _ _ _ _ (four _ (first t i .pre .1 .0) (first t i .pre .1 .1 .total) (c .before .before .if1 .left)
+            (c .before .if2 .left)) (i .before .before .before .before .of-group .ensures) (i .before .before .before .gap .ensures .0),
+      );
+    }
 
 gather-row-slid-requires : (t : ℕ) → gather-row-lts.Need-slid-requires (callees t) (gather-row-at t) gather-row.Post gather-row-Inv-loop gather-row-μ-loop
 gather-row-slid-requires t c κs =
     let v = c .before .before .before in
-    let i = turning t v in
-    (inside-here _ _ _ _ _ _ _ (first t i .pre .1 .2) (i .loop-test .taken) (i .before .before .before .before .before .group .ensures .0) (v .before .before .before .before .share .ensures), let p = i .before .before .before .gap .ensures .1 in omega arith, size-most _ _ _ _ (four _ (first t i .pre .1 .0) (first t i .pre .1 .1 .total) (c .before .before .if1 .left) (c .before .if2 .left)) (i .before .before .before .before .of-group .ensures) (i .before .before .before .gap .ensures .0), small-low _ _ (let p = first t i .pre .1 .0 in omega arith) (first t i .pre .1 .1 .total) (first t i .pre .1 .3))
+    let i = turning t v in (
+      inside-here _ _ _ _ _ _ _ (first t i .pre .1 .2) (i .loop-test .taken) (i .before .before .before .before .before .group .ensures .0)
+          (v .before .before .before .before .share .ensures),
+      let p = i .before .before .before .gap .ensures .1 in omega arith,
+      size-most _ _ _ _
+          (four _ (first t i .pre .1 .0) (first t i .pre .1 .1 .total) (c .before .before .if1 .left) (c .before .if2 .left))
+          (i .before .before .before .before .of-group .ensures) (i .before .before .before .gap .ensures .0),
+      small-low _ _
+          (let p = first t i .pre .1 .0 in omega arith) (first t i .pre .1 .1 .total) (first t i .pre .1 .3),
+    )
 
 gather-row-sub-gather-row : (t : ℕ) → gather-row-lts.Need-sub-gather-row (callees t) (gather-row-at t) gather-row.Post gather-row-Inv-loop gather-row-μ-loop
 gather-row-sub-gather-row t c = omega arith
 
-gather-row-gather-row-requires : (t : ℕ) → gather-row-lts.Need-gather-row-requires (callees t) (gather-row-at t) gather-row.Post gather-row-Inv-loop gather-row-μ-loop
+gather-row-gather-row-requires : (t : ℕ)
+    → gather-row-lts.Need-gather-row-requires (callees t) (gather-row-at t) gather-row.Post gather-row-Inv-loop gather-row-μ-loop
 gather-row-gather-row-requires t c κs =
     let q = c .before .slid .ensures in
     let v = c .before .before .before .before .before in
     let i = turning t v in
-    let e = four _ (first t i .pre .1 .0) (first t i .pre .1 .1 .total) (c .before .before .before .before .if1 .left) (c .before .before .before .if2 .left) in (
+    let e = four _ (first t i .pre .1 .0) (first t i .pre .1 .1 .total) (c .before .before .before .before .if1 .left)
+    (c .before .before .before .if2 .left) in (
       let m = first t i .pre .0 in omega arith,
       (
         omega arith,
-        next-ready _ _ _ _ _ _ _ _ _ _ (first t i .pre .1 .1) _ _ (fewer t i) _ _ _ _ _ (i .before .loop .inv .2) (i .loop-test .taken) _ _ (v .before .key .ensures) (v .weight-of .ensures) _ refl _ _ (v .before .before .before .chosen .ensures) (v .before .before .chosen2 .ensures),
+        next-ready _ _ _ _ _ _ _ _ _ _ (first t i .pre .1 .1) _ _ (fewer t i) _ _ _ _ _ (i .before .loop .inv .2) (i .loop-test .taken) _ _
+            (v .before .key .ensures) (v .weight-of .ensures) _ refl _ _ (v .before .before .before .chosen .ensures) (v .before .before .chosen2 .ensures),
         first t i .pre .1 .2,
         small-up _ _ (omega arith) (q .most _ (re-small (fewer t i) (first t i .pre .1 .3))),
       ),
@@ -243,9 +292,11 @@ Next t v m sums =
     let a = first t i .args in
     let closed = a .weight * i .before .before .arrangements .result in
     Counted (a .t .now) (a .count) 1 (a .second) (a .left - 1) (v .before .before .before .chosen .result) m
-    × Loop (a .t .now) (a .count) 2 (a .second) (a .left) (a .from) (a .begun) (a .s) (a .weight) (a .sums .now) (first t i .pre .1 .1) (boxed (a .second + 1) (a .t4)) closed (i .before .loop .c + 1) (i .before .before .before .before .of-group .result) closed sums
+    × Loop (a .t .now) (a .count) 2 (a .second) (a .left) (a .from) (a .begun) (a .s) (a .weight) (a .sums .now) (first t i .pre .1 .1)
+    (boxed (a .second + 1) (a .t4)) closed (i .before .loop .c + 1) (i .before .before .before .before .of-group .result) closed sums
 
-gather-row-met : (t : ℕ) (c : gather-row-lts.Joined1 (callees t) (gather-row-at t) gather-row.Post gather-row-Inv-loop gather-row-μ-loop) → Next t (c .before) (c .if1 .m) (c .if1 .sums)
+gather-row-met : (t : ℕ) (c : gather-row-lts.Joined1 (callees t) (gather-row-at t) gather-row.Post gather-row-Inv-loop gather-row-μ-loop)
+    → Next t (c .before) (c .if1 .m) (c .if1 .sums)
 gather-row-met t c =
     let v = c .before in
     let i = turning t v in
@@ -255,8 +306,11 @@ gather-row-met t c =
     let d : 2 ≡ first t i .args .left - 1 = omega arith in
     rw (x .6, x .7) (
       re-counted d (x .4 .ensures .0),
-      one-more _ _ _ _ _ _ _ _ _ _ (first t i .pre .1 .1) _ 2 e _ _ _ _ _ (i .before .loop .inv .2) (i .loop-test .taken) _ _ (v .before .key .ensures) (v .weight-of .ensures) _ (ap (λ n. eqb (n - 1) (first t i .args .second)) e) _ _ (v .before .before .before .chosen .ensures) (v .before .before .chosen2 .ensures) (boxed _ _)
-          (box-same _ _ _ 2 _ _ _ _ _ _ _ (re-group _ e (i .before .before .before .before .before .group .ensures .0)) (v .before .before .before .before .share .ensures) (re-gap _ e (i .before .before .before .gap .ensures .0)) (size-three _) (x .2 .ensures))
+      one-more _ _ _ _ _ _ _ _ _ _ (first t i .pre .1 .1) _ 2 e _ _ _ _ _ (i .before .loop .inv .2) (i .loop-test .taken) _ _
+          (v .before .key .ensures) (v .weight-of .ensures) _ (ap (λ n. eqb (n - 1) (first t i .args .second)) e) _ _
+          (v .before .before .before .chosen .ensures) (v .before .before .chosen2 .ensures) (boxed _ _)
+          (box-same _ _ _ 2 _ _ _ _ _ _ _ (re-group _ e (i .before .before .before .before .before .group .ensures .0))
+          (v .before .before .before .before .share .ensures) (re-gap _ e (i .before .before .before .gap .ensures .0)) (size-three _) (x .2 .ensures))
           _ (i .before .before .before .before .of-group .ensures) _ (x .4 .ensures .1),
     ))
     (⊎-elim
@@ -265,29 +319,42 @@ gather-row-met t c =
     let d : 1 ≡ first t i .args .left - 1 = omega arith in
     rw (x .7, x .8) (
       re-counted d (x .5 .ensures .0),
-      one-more _ _ _ _ _ _ _ _ _ _ (first t i .pre .1 .1) _ 1 e _ _ _ _ _ (i .before .loop .inv .2) (i .loop-test .taken) _ _ (v .before .key .ensures) (v .weight-of .ensures) _ (ap (λ n. eqb (n - 1) (first t i .args .second)) e) _ _ (v .before .before .before .chosen .ensures) (v .before .before .chosen2 .ensures) (boxed _ _)
-          (box-same _ _ _ 1 _ _ _ _ _ _ _ (re-group _ e (i .before .before .before .before .before .group .ensures .0)) (v .before .before .before .before .share .ensures) (re-gap _ e (i .before .before .before .gap .ensures .0)) (size-two _) (x .3 .ensures))
+      one-more _ _ _ _ _ _ _ _ _ _ (first t i .pre .1 .1) _ 1 e _ _ _ _ _ (i .before .loop .inv .2) (i .loop-test .taken) _ _
+          (v .before .key .ensures) (v .weight-of .ensures) _ (ap (λ n. eqb (n - 1) (first t i .args .second)) e) _ _
+          (v .before .before .before .chosen .ensures) (v .before .before .chosen2 .ensures) (boxed _ _)
+          (box-same _ _ _ 1 _ _ _ _ _ _ _ (re-group _ e (i .before .before .before .before .before .group .ensures .0))
+          (v .before .before .before .before .share .ensures) (re-gap _ e (i .before .before .before .gap .ensures .0)) (size-two _) (x .3 .ensures))
           _ (i .before .before .before .before .of-group .ensures) _ (x .5 .ensures .1),
     ))
     (λ x.
     let e = four _ (first t i .pre .1 .0) (first t i .pre .1 .1 .total) (x .0 .left) (x .1 .left) in
     rw (x .7, x .8) (
       x .5 .ensures .0,
-      one-more _ _ _ _ _ _ _ _ _ _ (first t i .pre .1 .1) _ _ (fewer t i) _ _ _ _ _ (i .before .loop .inv .2) (i .loop-test .taken) _ _ (v .before .key .ensures) (v .weight-of .ensures) _ refl _ _ (v .before .before .before .chosen .ensures) (v .before .before .chosen2 .ensures) (boxed _ _)
-          (box-same _ _ _ _ _ _ _ _ _ _ _ (re-group _ (fewer t i) (i .before .before .before .before .before .group .ensures .0)) (v .before .before .before .before .share .ensures) (re-gap _ (fewer t i) (i .before .before .before .gap .ensures .0)) (size-all _ _ _ _ _ (fewer t i) (i .before .before .before .before .of-group .ensures) (i .before .before .before .gap .ensures .0)) (x .3 .ensures))
+      one-more _ _ _ _ _ _ _ _ _ _ (first t i .pre .1 .1) _ _ (fewer t i) _ _ _ _ _ (i .before .loop .inv .2) (i .loop-test .taken) _ _
+          (v .before .key .ensures) (v .weight-of .ensures) _ refl _ _ (v .before .before .before .chosen .ensures) (v .before .before .chosen2 .ensures)
+          (boxed _ _)
+          (box-same _ _ _ _ _ _ _ _ _ _ _ (re-group _ (fewer t i) (i .before .before .before .before .before .group .ensures .0))
+          (v .before .before .before .before .share .ensures) (re-gap _ (fewer t i) (i .before .before .before .gap .ensures .0))
+          (size-all _ _ _ _ _ (fewer t i) (i .before .before .before .before .of-group .ensures) (i .before .before .before .gap .ensures .0)) (x .3 .ensures))
           _ (i .before .before .before .before .of-group .ensures) _ (x .5 .ensures .1),
     )))
     (c .if1 .came)
 
 gather-row-add-n : (t : ℕ) → gather-row-lts.Need-add-n (callees t) (gather-row-at t) gather-row.Post gather-row-Inv-loop gather-row-μ-loop
-gather-row-add-n t c = let i = turning t (c .before .before) in let few = first t i .pre .1 .1 .total in omega (arith, counted-small _ _ _ _ _ _ _ (omega arith) (gather-row-met t (c .before) .0))
+gather-row-add-n t c = let i = turning t (c .before .before) in let few = first t i .pre .1 .1 .total in omega
+    (arith, counted-small _ _ _ _ _ _ _ (omega arith) (gather-row-met t (c .before) .0))
 
 gather-row-add-n-2 : (t : ℕ) → gather-row-lts.Need-add-n-2 (callees t) (gather-row-at t) gather-row.Post gather-row-Inv-loop gather-row-μ-loop
 gather-row-add-n-2 t c =
     let i = turning t (c .before .before) in
     let few = first t i .pre .1 .1 .able .good .few in
     let total = first t i .pre .1 .1 .total in
-    omega (arith, counted-small _ _ _ _ _ _ _ (omega arith) (gather-row-met t (c .before) .0), counting-small _ _ _ _ _ _ _ _ (omega arith) (omega arith) (i .before .loop .inv .1))
+    omega (
+      arith,
+      counted-small _ _ _ _ _ _ _ (omega arith) (gather-row-met t (c .before) .0),
+      counting-small _ _ _ _ _ _ _ _ (omega arith)
+          (omega arith) (i .before .loop .inv .1),
+    )
 
 gather-row-add-c : (t : ℕ) → gather-row-lts.Need-add-c (callees t) (gather-row-at t) gather-row.Post gather-row-Inv-loop gather-row-μ-loop
 gather-row-add-c t c = let n = first t (turning t (c .before .before)) .pre .1 .1 .able .good .few in omega arith
@@ -302,7 +369,8 @@ gather-row-loop-again t c =
     let z : first t i .args .left ≡ first t i .args .left - 1 + 1 = let p = first t i .pre .1 .0 in omega arith in
     let q = gather-row-met t (c .before) in (
       omega arith,
-      one-counted _ _ _ _ _ _ _ _ _ _ _ _ refl (v .before .before .before .chosen .ensures) (i .loop-test .taken) (z ∙ row-size _) (let m = first t i .pre .1 .1 .total in omega arith) (i .before .loop .inv .1) (q .0),
+      one-counted _ _ _ _ _ _ _ _ _ _ _ _ refl (v .before .before .before .chosen .ensures) (i .loop-test .taken) (z ∙ row-size _)
+          (let m = first t i .pre .1 .1 .total in omega arith) (i .before .loop .inv .1) (q .0),
       q .1,
     )
 

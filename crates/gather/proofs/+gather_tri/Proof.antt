@@ -76,7 +76,8 @@ callees t = (
 abbrev gather-tri-Inv-loop : gather-tri-lts.InvT-loop
 gather-tri-Inv-loop t count left from begun s weight sums₀ net closed formed c₀ b₀ w₀ n₀ sums c b w n =
     (c ≤ count) × Counting t count 2 0 (left - 1) from c n
-    × Sofar (readAt t count 0 left) (restAt t count 0 left) (termsOf t count (groupAt 0 0 left)) (ofGroup 0 left) from begun weight s (held net) sums₀ closed c b w sums
+    × Sofar (readAt t count 0 left) (restAt t count 0 left) (termsOf t count (groupAt 0 0 left)) (ofGroup 0 left) from begun weight s (held net) sums₀
+    closed c b w sums
 
 abbrev gather-tri-μ-loop : gather-tri-lts.MeasureT-loop
 gather-tri-μ-loop t count left from begun s weight sums₀ net closed formed c₀ b₀ w₀ n₀ sums c b w n = count - c
@@ -84,13 +85,16 @@ gather-tri-μ-loop t count left from begun s weight sums₀ net closed formed c�
 one-fewer : (n : ℕ) → 1 < n → n ≡ suc (n - 1)
 one-fewer n some = omega arith
 
-abbrev first : (t : ℕ) → gather-tri-lts.In-loop (callees t) (gather-tri-at t) gather-tri.Post gather-tri-Inv-loop gather-tri-μ-loop → gather-tri-lts.Start (callees t) (gather-tri-at t) gather-tri.Post gather-tri-Inv-loop gather-tri-μ-loop
+abbrev first : (t : ℕ) → gather-tri-lts.In-loop (callees t) (gather-tri-at t) gather-tri.Post gather-tri-Inv-loop gather-tri-μ-loop
+    → gather-tri-lts.Start (callees t) (gather-tri-at t) gather-tri.Post gather-tri-Inv-loop gather-tri-μ-loop
 first t i = i .before .before .before .before
 
-abbrev turning : (t : ℕ) → gather-tri-lts.After-weight-of (callees t) (gather-tri-at t) gather-tri.Post gather-tri-Inv-loop gather-tri-μ-loop → gather-tri-lts.In-loop (callees t) (gather-tri-at t) gather-tri.Post gather-tri-Inv-loop gather-tri-μ-loop
+abbrev turning : (t : ℕ) → gather-tri-lts.After-weight-of (callees t) (gather-tri-at t) gather-tri.Post gather-tri-Inv-loop gather-tri-μ-loop
+    → gather-tri-lts.In-loop (callees t) (gather-tri-at t) gather-tri.Post gather-tri-Inv-loop gather-tri-μ-loop
 turning t v = v .before .before .before .before
 
-fewer : (t : ℕ) (i : gather-tri-lts.In-loop (callees t) (gather-tri-at t) gather-tri.Post gather-tri-Inv-loop gather-tri-μ-loop) → first t i .args .left ≡ suc (first t i .args .left - 1)
+fewer : (t : ℕ) (i : gather-tri-lts.In-loop (callees t) (gather-tri-at t) gather-tri.Post gather-tri-Inv-loop gather-tri-μ-loop)
+    → first t i .args .left ≡ suc (first t i .args .left - 1)
 fewer t i = one-fewer _ (first t i .pre .1 .0)
 
 -- the same with the arguments left otherwise written
@@ -107,8 +111,13 @@ re-lowered {p} {q} {x} {y} e = subst (λ n. Lowered p x y n q) e
 none-anew : (n : ℕ) → 1 < n → false ≡ eqb (n - 1) 0
 none-anew n some = sym (ne-eqb (n - 1) 0 (omega arith))
 
-gather-tri-arrangements-requires : (t : ℕ) → gather-tri-lts.Need-arrangements-requires (callees t) (gather-tri-at t) gather-tri.Post gather-tri-Inv-loop gather-tri-μ-loop
-gather-tri-arrangements-requires t c κs = let r = c .pre .1 .1 in (r .able .few, open-here _ _ _ _ _ _ _ _ _ _ r _ (all-of (c .args .t .now) (c .args .count) _ (let p = c .pre .1 .0 in omega arith)))
+gather-tri-arrangements-requires : (t : ℕ)
+    → gather-tri-lts.Need-arrangements-requires (callees t) (gather-tri-at t) gather-tri.Post gather-tri-Inv-loop gather-tri-μ-loop
+gather-tri-arrangements-requires t c κs = let r = c .pre .1 .1 in (
+  r .able .few,
+  open-here _ _ _ _ _ _ _ _ _ _ r _
+      (all-of (c .args .t .now) (c .args .count) _ (let p = c .pre .1 .0 in omega arith)),
+)
 
 gather-tri-mul-closed : (t : ℕ) → gather-tri-lts.Need-mul-closed (callees t) (gather-tri-at t) gather-tri.Post gather-tri-Inv-loop gather-tri-μ-loop
 gather-tri-mul-closed t c =
@@ -118,14 +127,19 @@ gather-tri-mul-closed t c =
 gather-tri-sub-triangle : (t : ℕ) → gather-tri-lts.Need-sub-triangle (callees t) (gather-tri-at t) gather-tri.Post gather-tri-Inv-loop gather-tri-μ-loop
 gather-tri-sub-triangle t c = let p = c .before .pre .1 .0 in omega arith
 
-gather-tri-triangle-requires : (t : ℕ) → gather-tri-lts.Need-triangle-requires (callees t) (gather-tri-at t) gather-tri.Post gather-tri-Inv-loop gather-tri-μ-loop
+gather-tri-triangle-requires : (t : ℕ)
+    → gather-tri-lts.Need-triangle-requires (callees t) (gather-tri-at t) gather-tri.Post gather-tri-Inv-loop gather-tri-μ-loop
 gather-tri-triangle-requires t c κs = let p = c .before .pre .1 .1 .total in omega arith
 
 gather-tri-loop-holds : (t : ℕ) → gather-tri-lts.Need-loop-holds (callees t) (gather-tri-at t) gather-tri.Post gather-tri-Inv-loop gather-tri-μ-loop
 gather-tri-loop-holds t c =
     let s = c .before .before in
-    let r = s .pre .1 .1 in
-    (let h = r .able .here in omega arith, none-yet _ _ _ _ _ _, start _ _ _ _ _ _ _ _ _ _ r _ _ _ (all-of (s .args .t .now) (s .args .count) _ (let p = s .pre .1 .0 in omega arith)) (c .before .arrangements .ensures .0))
+    let r = s .pre .1 .1 in (
+      let h = r .able .here in omega arith,
+      none-yet _ _ _ _ _ _,
+      start _ _ _ _ _ _ _ _ _ _ r _ _ _
+          (all-of (s .args .t .now) (s .args .count) _ (let p = s .pre .1 .0 in omega arith)) (c .before .arrangements .ensures .0),
+    )
 
 gather-tri-share-requires : (t : ℕ) → gather-tri-lts.Need-share-requires (callees t) (gather-tri-at t) gather-tri.Post gather-tri-Inv-loop gather-tri-μ-loop
 gather-tri-share-requires t c κs = let n = first t c .pre .1 .1 .able .good .few in (omega arith, omega arith)
@@ -139,50 +153,62 @@ gather-tri-key-requires t c κs = let n = first t (c .before .before) .pre .1 .1
 gather-tri-add-place : (t : ℕ) → gather-tri-lts.Need-add-place (callees t) (gather-tri-at t) gather-tri.Post gather-tri-Inv-loop gather-tri-μ-loop
 gather-tri-add-place t c =
     let i = c .before .before .before in
-    let p = place _ _ _ _ _ _ _ _ _ _ (first t i .pre .1 .1) _ _ (fewer t i) _ _ _ _ _ (i .before .loop .inv .2) (i .loop-test .taken) _ _ (c .key .ensures) refl in
+    let p = place _ _ _ _ _ _ _ _ _ _ (first t i .pre .1 .1) _ _ (fewer t i) _ _ _ _ _ (i .before .loop .inv .2) (i .loop-test .taken) _ _
+    (c .key .ensures) refl in
     let long = i .before .loop .inv .2 .toward .long in
     let q = first t i .good .1 .1 .1 .1 .1 .1 .1 .1 .0 in
     omega arith
 
-gather-tri-weight-of-requires : (t : ℕ) → gather-tri-lts.Need-weight-of-requires (callees t) (gather-tri-at t) gather-tri.Post gather-tri-Inv-loop gather-tri-μ-loop
+gather-tri-weight-of-requires : (t : ℕ)
+    → gather-tri-lts.Need-weight-of-requires (callees t) (gather-tri-at t) gather-tri.Post gather-tri-Inv-loop gather-tri-μ-loop
 gather-tri-weight-of-requires t c κs = let n = first t (c .before .before .before) .pre .1 .1 .able .good .few in omega arith
 
 gather-tri-mul-v : (t : ℕ) → gather-tri-lts.Need-mul-v (callees t) (gather-tri-at t) gather-tri.Post gather-tri-Inv-loop gather-tri-μ-loop
 gather-tri-mul-v t c =
     let i = c .before .before .before .before in
-    let p = next-small _ _ _ _ _ _ _ _ _ _ (first t i .pre .1 .1) _ _ (fewer t i) _ _ _ _ _ (i .before .loop .inv .2) (i .loop-test .taken) _ _ (c .before .key .ensures) (c .weight-of .ensures) in
+    let p = next-small _ _ _ _ _ _ _ _ _ _ (first t i .pre .1 .1) _ _ (fewer t i) _ _ _ _ _ (i .before .loop .inv .2) (i .loop-test .taken) _ _
+    (c .before .key .ensures) (c .weight-of .ensures) in
     omega arith
 
 gather-tri-tri-six-requires : (t : ℕ) → gather-tri-lts.Need-tri-six-requires (callees t) (gather-tri-at t) gather-tri.Post gather-tri-Inv-loop gather-tri-μ-loop
 gather-tri-tri-six-requires t c κs =
     let v = c .before .before in
-    let i = turning t v in
-    (rw (v .before .before .before .share .ensures, v .before .before .share2 .ensures) (first t i .pre .1 .2 .both _ (i .loop-test .taken)), small-low _ _ (let p = first t i .pre .1 .0 in omega arith) (first t i .pre .1 .1 .total) (first t i .pre .1 .3))
+    let i = turning t v in (
+      rw (v .before .before .before .share .ensures, v .before .before .share2 .ensures) (first t i .pre .1 .2 .both _ (i .loop-test .taken)),
+      small-low _ _ (let p = first t i .pre .1 .0 in omega arith) (first t i .pre .1 .1 .total) (first t i .pre .1 .3),
+    )
 
-gather-tri-pair-tri-requires : (t : ℕ) → gather-tri-lts.Need-pair-tri-requires (callees t) (gather-tri-at t) gather-tri.Post gather-tri-Inv-loop gather-tri-μ-loop
+gather-tri-pair-tri-requires : (t : ℕ)
+    → gather-tri-lts.Need-pair-tri-requires (callees t) (gather-tri-at t) gather-tri.Post gather-tri-Inv-loop gather-tri-μ-loop
 gather-tri-pair-tri-requires t c κs =
     let q = c .before .tri-six .ensures in
     let e = c .before .before .before .if1 .taken in
     let v = c .before .before .before .before in
     let i = turning t v in (
-      next-ready _ _ _ _ _ _ _ _ _ _ (first t i .pre .1 .1) _ 2 e _ _ _ _ _ (i .before .loop .inv .2) (i .loop-test .taken) _ _ (v .before .key .ensures) (v .weight-of .ensures) false refl _ _ refl refl,
+      next-ready _ _ _ _ _ _ _ _ _ _ (first t i .pre .1 .1) _ 2 e _ _ _ _ _ (i .before .loop .inv .2) (i .loop-test .taken) _ _
+          (v .before .key .ensures) (v .weight-of .ensures) false refl _ _ refl refl,
       first t i .pre .1 .2,
       small-up _ 2 (omega arith) (q .most (entryMost 3) (re-small e (first t i .pre .1 .3))),
     )
 
-gather-tri-tri-three-requires : (t : ℕ) → gather-tri-lts.Need-tri-three-requires (callees t) (gather-tri-at t) gather-tri.Post gather-tri-Inv-loop gather-tri-μ-loop
+gather-tri-tri-three-requires : (t : ℕ)
+    → gather-tri-lts.Need-tri-three-requires (callees t) (gather-tri-at t) gather-tri.Post gather-tri-Inv-loop gather-tri-μ-loop
 gather-tri-tri-three-requires t c κs =
     let v = c .before .before .before in
-    let i = turning t v in
-    (rw (v .before .before .before .share .ensures, v .before .before .share2 .ensures) (first t i .pre .1 .2 .both _ (i .loop-test .taken)), small-low _ _ (let p = first t i .pre .1 .0 in omega arith) (first t i .pre .1 .1 .total) (first t i .pre .1 .3))
+    let i = turning t v in (
+      rw (v .before .before .before .share .ensures, v .before .before .share2 .ensures) (first t i .pre .1 .2 .both _ (i .loop-test .taken)),
+      small-low _ _ (let p = first t i .pre .1 .0 in omega arith) (first t i .pre .1 .1 .total) (first t i .pre .1 .3),
+    )
 
-gather-tri-last-tri-requires : (t : ℕ) → gather-tri-lts.Need-last-tri-requires (callees t) (gather-tri-at t) gather-tri.Post gather-tri-Inv-loop gather-tri-μ-loop
+gather-tri-last-tri-requires : (t : ℕ)
+    → gather-tri-lts.Need-last-tri-requires (callees t) (gather-tri-at t) gather-tri.Post gather-tri-Inv-loop gather-tri-μ-loop
 gather-tri-last-tri-requires t c κs =
     let q = c .before .tri-three .ensures in
     let e = c .before .before .before .if2 .taken in
     let v = c .before .before .before .before .before in
     let i = turning t v in (
-      next-ready _ _ _ _ _ _ _ _ _ _ (first t i .pre .1 .1) _ 1 e _ _ _ _ _ (i .before .loop .inv .2) (i .loop-test .taken) _ _ (v .before .key .ensures) (v .weight-of .ensures) false refl _ _ refl refl,
+      next-ready _ _ _ _ _ _ _ _ _ _ (first t i .pre .1 .1) _ 1 e _ _ _ _ _ (i .before .loop .inv .2) (i .loop-test .taken) _ _
+          (v .before .key .ensures) (v .weight-of .ensures) false refl _ _ refl refl,
       first t i .pre .1 .2,
       small-up _ 1 (omega arith) (q .most (entryMost 2) (re-small e (first t i .pre .1 .3))),
     )
@@ -194,22 +220,27 @@ four n some few no3 no2 = omega arith
 gather-tri-lowered-requires : (t : ℕ) → gather-tri-lts.Need-lowered-requires (callees t) (gather-tri-at t) gather-tri.Post gather-tri-Inv-loop gather-tri-μ-loop
 gather-tri-lowered-requires t c κs =
     let v = c .before .before .before in
-    let i = turning t v in
-    (rw (v .before .before .before .share .ensures, v .before .before .share2 .ensures) (first t i .pre .1 .2 .both _ (i .loop-test .taken)), small-low _ _ (let p = first t i .pre .1 .0 in omega arith) (first t i .pre .1 .1 .total) (first t i .pre .1 .3))
+    let i = turning t v in (
+      rw (v .before .before .before .share .ensures, v .before .before .share2 .ensures) (first t i .pre .1 .2 .both _ (i .loop-test .taken)),
+      small-low _ _ (let p = first t i .pre .1 .0 in omega arith) (first t i .pre .1 .1 .total) (first t i .pre .1 .3),
+    )
 
 gather-tri-sub-gather-tri : (t : ℕ) → gather-tri-lts.Need-sub-gather-tri (callees t) (gather-tri-at t) gather-tri.Post gather-tri-Inv-loop gather-tri-μ-loop
 gather-tri-sub-gather-tri t c = omega arith
 
-gather-tri-gather-tri-requires : (t : ℕ) → gather-tri-lts.Need-gather-tri-requires (callees t) (gather-tri-at t) gather-tri.Post gather-tri-Inv-loop gather-tri-μ-loop
+gather-tri-gather-tri-requires : (t : ℕ)
+    → gather-tri-lts.Need-gather-tri-requires (callees t) (gather-tri-at t) gather-tri.Post gather-tri-Inv-loop gather-tri-μ-loop
 gather-tri-gather-tri-requires t c κs =
     let q = c .before .lowered .ensures in
     let v = c .before .before .before .before .before in
     let i = turning t v in
-    let e = four _ (first t i .pre .1 .0) (first t i .pre .1 .1 .total) (c .before .before .before .before .if1 .left) (c .before .before .before .if2 .left) in (
+    let e = four _ (first t i .pre .1 .0) (first t i .pre .1 .1 .total) (c .before .before .before .before .if1 .left)
+    (c .before .before .before .if2 .left) in (
       let m = first t i .pre .0 in omega arith,
       (
         omega arith,
-        next-ready _ _ _ _ _ _ _ _ _ _ (first t i .pre .1 .1) _ _ (fewer t i) _ _ _ _ _ (i .before .loop .inv .2) (i .loop-test .taken) _ _ (v .before .key .ensures) (v .weight-of .ensures) false (none-anew _ (first t i .pre .1 .0)) _ _ refl refl,
+        next-ready _ _ _ _ _ _ _ _ _ _ (first t i .pre .1 .1) _ _ (fewer t i) _ _ _ _ _ (i .before .loop .inv .2) (i .loop-test .taken) _ _
+            (v .before .key .ensures) (v .weight-of .ensures) false (none-anew _ (first t i .pre .1 .0)) _ _ refl refl,
         first t i .pre .1 .2,
         small-up _ _ (omega arith) (q .most _ (re-small (fewer t i) (first t i .pre .1 .3))),
       ),
@@ -222,9 +253,11 @@ Next t v m sums =
     let a = first t i .args in
     let closed = a .weight * i .before .before .before .arrangements .result in
     Counted (a .t .now) (a .count) 2 0 (a .left - 1) (i .before .loop .c) m
-    × Loop (a .t .now) (a .count) 0 0 (a .left) (a .from) (a .begun) (a .s) (a .weight) (a .sums .now) (first t i .pre .1 .1) (held (a .t3)) closed (i .before .loop .c + 1) (a .left) closed sums
+    × Loop (a .t .now) (a .count) 0 0 (a .left) (a .from) (a .begun) (a .s) (a .weight) (a .sums .now) (first t i .pre .1 .1) (held (a .t3)) closed
+    (i .before .loop .c + 1) (a .left) closed sums
 
-gather-tri-met : (t : ℕ) (c : gather-tri-lts.Joined1 (callees t) (gather-tri-at t) gather-tri.Post gather-tri-Inv-loop gather-tri-μ-loop) → Next t (c .before) (c .if1 .m) (c .if1 .sums)
+gather-tri-met : (t : ℕ) (c : gather-tri-lts.Joined1 (callees t) (gather-tri-at t) gather-tri.Post gather-tri-Inv-loop gather-tri-μ-loop)
+    → Next t (c .before) (c .if1 .m) (c .if1 .sums)
 gather-tri-met t c =
     let v = c .before in
     let i = turning t v in
@@ -234,8 +267,10 @@ gather-tri-met t c =
     let d : 2 ≡ first t i .args .left - 1 = omega arith in
     rw (x .6, x .7) (
       re-counted d (x .4 .ensures .0),
-      one-more _ _ _ _ _ _ _ _ _ _ (first t i .pre .1 .1) _ 2 e _ _ _ _ _ (i .before .loop .inv .2) (i .loop-test .taken) _ _ (v .before .key .ensures) (v .weight-of .ensures) false refl _ _ refl refl (held _)
-          (triangle-same _ _ 2 _ _ _ _ _ (let m = first t i .pre .1 .1 .total in omega arith) (v .before .before .before .share .ensures) (v .before .before .share2 .ensures) (x .2 .ensures))
+      one-more _ _ _ _ _ _ _ _ _ _ (first t i .pre .1 .1) _ 2 e _ _ _ _ _ (i .before .loop .inv .2) (i .loop-test .taken) _ _
+          (v .before .key .ensures) (v .weight-of .ensures) false refl _ _ refl refl (held _)
+          (triangle-same _ _ 2 _ _ _ _ _ (let m = first t i .pre .1 .1 .total in omega arith) (v .before .before .before .share .ensures)
+          (v .before .before .share2 .ensures) (x .2 .ensures))
           _ (all-of ((first t i) .args .t .now) ((first t i) .args .count) _ (let p = (first t i) .pre .1 .0 in omega arith)) _ (x .4 .ensures .1),
     ))
     (⊎-elim
@@ -244,29 +279,40 @@ gather-tri-met t c =
     let d : 1 ≡ first t i .args .left - 1 = omega arith in
     rw (x .7, x .8) (
       re-counted d (x .5 .ensures .0),
-      one-more _ _ _ _ _ _ _ _ _ _ (first t i .pre .1 .1) _ 1 e _ _ _ _ _ (i .before .loop .inv .2) (i .loop-test .taken) _ _ (v .before .key .ensures) (v .weight-of .ensures) false refl _ _ refl refl (held _)
-          (triangle-same _ _ 1 _ _ _ _ _ (let m = first t i .pre .1 .1 .total in omega arith) (v .before .before .before .share .ensures) (v .before .before .share2 .ensures) (x .3 .ensures))
+      one-more _ _ _ _ _ _ _ _ _ _ (first t i .pre .1 .1) _ 1 e _ _ _ _ _ (i .before .loop .inv .2) (i .loop-test .taken) _ _
+          (v .before .key .ensures) (v .weight-of .ensures) false refl _ _ refl refl (held _)
+          (triangle-same _ _ 1 _ _ _ _ _ (let m = first t i .pre .1 .1 .total in omega arith) (v .before .before .before .share .ensures)
+          (v .before .before .share2 .ensures) (x .3 .ensures))
           _ (all-of ((first t i) .args .t .now) ((first t i) .args .count) _ (let p = (first t i) .pre .1 .0 in omega arith)) _ (x .5 .ensures .1),
     ))
     (λ x.
     let e = four _ (first t i .pre .1 .0) (first t i .pre .1 .1 .total) (x .0 .left) (x .1 .left) in
     rw (x .7, x .8) (
       x .5 .ensures .0,
-      one-more _ _ _ _ _ _ _ _ _ _ (first t i .pre .1 .1) _ _ (fewer t i) _ _ _ _ _ (i .before .loop .inv .2) (i .loop-test .taken) _ _ (v .before .key .ensures) (v .weight-of .ensures) false (none-anew _ (first t i .pre .1 .0)) _ _ refl refl (held _)
-          (triangle-same _ _ _ _ _ _ _ _ (let m = first t i .pre .1 .1 .total in omega arith) (v .before .before .before .share .ensures) (v .before .before .share2 .ensures) (re-lowered (sym e ∙ fewer t i) (x .3 .ensures)))
+      one-more _ _ _ _ _ _ _ _ _ _ (first t i .pre .1 .1) _ _ (fewer t i) _ _ _ _ _ (i .before .loop .inv .2) (i .loop-test .taken) _ _
+          (v .before .key .ensures) (v .weight-of .ensures) false (none-anew _ (first t i .pre .1 .0)) _ _ refl refl (held _)
+          (triangle-same _ _ _ _ _ _ _ _ (let m = first t i .pre .1 .1 .total in omega arith) (v .before .before .before .share .ensures)
+          (v .before .before .share2 .ensures) (re-lowered (sym e ∙ fewer t i) (x .3 .ensures)))
           _ (all-of ((first t i) .args .t .now) ((first t i) .args .count) _ (let p = (first t i) .pre .1 .0 in omega arith)) _ (x .5 .ensures .1),
     )))
     (c .if1 .came)
 
 gather-tri-add-n : (t : ℕ) → gather-tri-lts.Need-add-n (callees t) (gather-tri-at t) gather-tri.Post gather-tri-Inv-loop gather-tri-μ-loop
-gather-tri-add-n t c = let i = turning t (c .before .before) in let few = first t i .pre .1 .1 .total in omega (arith, counted-small _ _ _ _ _ _ _ (omega arith) (gather-tri-met t (c .before) .0), i .before .before .triangle .ensures .1)
+gather-tri-add-n t c = let i = turning t (c .before .before) in let few = first t i .pre .1 .1 .total in omega
+    (arith, counted-small _ _ _ _ _ _ _ (omega arith) (gather-tri-met t (c .before) .0), i .before .before .triangle .ensures .1)
 
 gather-tri-add-n-2 : (t : ℕ) → gather-tri-lts.Need-add-n-2 (callees t) (gather-tri-at t) gather-tri.Post gather-tri-Inv-loop gather-tri-μ-loop
 gather-tri-add-n-2 t c =
     let i = turning t (c .before .before) in
     let few = first t i .pre .1 .1 .able .good .few in
     let total = first t i .pre .1 .1 .total in
-    omega (arith, counted-small _ _ _ _ _ _ _ (omega arith) (gather-tri-met t (c .before) .0), counting-small _ _ _ _ _ _ _ _ (omega arith) (omega arith) (i .before .loop .inv .1), i .before .before .triangle .ensures .1)
+    omega (
+      arith,
+      counted-small _ _ _ _ _ _ _ (omega arith) (gather-tri-met t (c .before) .0),
+      counting-small _ _ _ _ _ _ _ _ (omega arith)
+          (omega arith) (i .before .loop .inv .1),
+      i .before .before .triangle .ensures .1,
+    )
 
 gather-tri-add-c : (t : ℕ) → gather-tri-lts.Need-add-c (callees t) (gather-tri-at t) gather-tri.Post gather-tri-Inv-loop gather-tri-μ-loop
 gather-tri-add-c t c = let n = first t (turning t (c .before .before)) .pre .1 .1 .able .good .few in omega arith
@@ -280,7 +326,8 @@ gather-tri-loop-again t c =
     let i = turning t v in
     let q = gather-tri-met t (c .before) in (
       omega arith,
-      one-counted _ _ _ _ _ _ _ _ _ _ _ false (none-anew _ (first t i .pre .1 .0)) refl (i .loop-test .taken) (i .before .before .triangle .ensures .0) (let m = i .before .before .triangle .ensures .1 in omega arith) (i .before .loop .inv .1) (q .0),
+      one-counted _ _ _ _ _ _ _ _ _ _ _ false (none-anew _ (first t i .pre .1 .0)) refl (i .loop-test .taken)
+          (i .before .before .triangle .ensures .0) (let m = i .before .before .triangle .ensures .1 in omega arith) (i .before .loop .inv .1) (q .0),
       q .1,
     )
 

@@ -15,7 +15,8 @@ use Rattle.gather.proofs.last_row.Statement.{statement}
 use Rattle.gather.proofs.last_row.Tie as tie
 
 abbrev Inv-loop : tie.InvT-loop
-Inv-loop t count second net from begun s weight sums₀ g closed c₀ w₀ sums c w = (c ≤ count) × Ending t count 2 second from begun s weight sums₀ (boxed (second + 1) (inTwo net)) closed c w sums
+Inv-loop t count second net from begun s weight sums₀ g closed c₀ w₀ sums c w = (c ≤ count) × Ending t count 2 second from begun s weight sums₀
+    (boxed (second + 1) (inTwo net)) closed c w sums
 
 abbrev μ-loop : tie.MeasureT-loop
 μ-loop t count second net from begun s weight sums₀ g closed c₀ w₀ sums c w = count - c
@@ -59,7 +60,8 @@ key-requires c κs = let n = first (c .before .before .before .before) .pre .0 .
 add-settle : tie.Need-add-settle Inv-loop μ-loop
 add-settle c =
     let i = c .before .before .before .before .before in
-    let p = last-asks _ _ _ _ _ _ _ _ _ (first i .pre .0) _ _ _ _ _ (i .before .loop .inv .1) (i .loop-test .taken) _ _ (c .key .ensures) (c .before .before .before .before .weight-of .ensures) in
+    let p = last-asks _ _ _ _ _ _ _ _ _ (first i .pre .0) _ _ _ _ _ (i .before .loop .inv .1) (i .loop-test .taken) _ _ (c .key .ensures)
+    (c .before .before .before .before .weight-of .ensures) in
     let long = i .before .loop .inv .1 .sofar .toward .long in
     let q = first i .good in
     omega arith
@@ -69,8 +71,13 @@ unfolding entryMost
 settle-requires c κs =
     let i = c .before .before .before .before .before in
     let p = first i .pre in
-    let a = last-asks _ _ _ _ _ _ _ _ _ (first i .pre .0) _ _ _ _ _ (i .before .loop .inv .1) (i .loop-test .taken) _ _ (c .key .ensures) (c .before .before .before .before .weight-of .ensures) in
-    (a .0, rw (c .before .before .toward .ensures) (between-most _ _ _ (2 ^ 42) (inside-here _ _ _ _ _ _ _ (p .1) (i .loop-test .taken) (i .before .before .group .ensures .0) (c .before .before .before .share .ensures)) (p .2 .most 0) (p .2 .most 1)), a .1)
+    let a = last-asks _ _ _ _ _ _ _ _ _ (first i .pre .0) _ _ _ _ _ (i .before .loop .inv .1) (i .loop-test .taken) _ _ (c .key .ensures)
+    (c .before .before .before .before .weight-of .ensures) in (
+      a .0,
+      rw (c .before .before .toward .ensures) (between-most _ _ _ (2 ^ 42) (inside-here _ _ _ _ _ _ _ (p .1) (i .loop-test .taken)
+          (i .before .before .group .ensures .0) (c .before .before .before .share .ensures)) (p .2 .most 0) (p .2 .most 1)),
+      a .1,
+    )
 
 add-c : tie.Need-add-c Inv-loop μ-loop
 add-c c = omega arith
@@ -83,8 +90,11 @@ loop-again c =
     let k = c .before .before in
     let i = k .before .before .before .before .before in (
       omega arith,
-      last-more _ _ _ _ _ _ _ _ _ (first i .pre .0) _ _ _ _ _ (i .before .loop .inv .1) (i .loop-test .taken) _ _ (k .key .ensures) (k .before .before .before .before .weight-of .ensures)
-          (boxed _ _) (last-same _ _ _ _ _ _ _ _ _ (i .before .before .group .ensures .0) (k .before .before .before .share .ensures) (inside-here _ _ _ _ _ _ _ (first i .pre .1) (i .loop-test .taken) (i .before .before .group .ensures .0) (k .before .before .before .share .ensures)) (k .before .before .toward .ensures)) _ (box-corner _ _) _ (c .before .settle .ensures),
+      last-more _ _ _ _ _ _ _ _ _ (first i .pre .0) _ _ _ _ _ (i .before .loop .inv .1) (i .loop-test .taken) _ _ (k .key .ensures)
+          (k .before .before .before .before .weight-of .ensures)
+          (boxed _ _) (last-same _ _ _ _ _ _ _ _ _ (i .before .before .group .ensures .0) (k .before .before .before .share .ensures)
+          (inside-here _ _ _ _ _ _ _ (first i .pre .1) (i .loop-test .taken) (i .before .before .group .ensures .0)
+          (k .before .before .before .share .ensures)) (k .before .before .toward .ensures)) _ (box-corner _ _) _ (c .before .settle .ensures),
     )
 
 sub-result : tie.Need-sub-result Inv-loop μ-loop
@@ -95,8 +105,11 @@ same-length c = c .before .loop .inv .1 .sofar .toward .long
 
 returns : tie.Need-returns Inv-loop μ-loop
 returns c =
-    let r = c .before .before .before .pre .0 in
-    (last-counted _ _ _ _ _ _ (r .able .good .few) (let h = r .able .here in omega arith), last-done _ _ _ _ _ _ _ _ _ r _ _ _ _ _ (c .before .loop .inv .1) (c .loop-test .left))
+    let r = c .before .before .before .pre .0 in (
+      last-counted _ _ _ _ _ _ (r .able .good .few) (let h = r .able .here in omega arith),
+      last-done _ _ _ _ _ _ _ _ _ r _ _ _ _ _
+          (c .before .loop .inv .1) (c .loop-test .left),
+    )
 
 pub last-row-spec : {M : Type 1} → statement M
 last-row-spec =

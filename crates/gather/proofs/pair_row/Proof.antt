@@ -22,7 +22,8 @@ use Rattle.gather.proofs.pair_row.Tie as tie
 abbrev Inv-loop : tie.InvT-loop
 Inv-loop t count second net from begun s weight sums₀ turn g here closed c₀ b₀ w₀ n₀ sums c b w n =
     (c ≤ count) × Counting t count 1 second 1 from c n
-    × Sofar (readAt t count second 2) (restAt t count second 2) (termsOf t count (groupAt 2 second 2)) (ofGroup second 2) from begun weight s (boxed (second + 1) (inFour net)) sums₀ closed c b w sums
+    × Sofar (readAt t count second 2) (restAt t count second 2) (termsOf t count (groupAt 2 second 2)) (ofGroup second 2) from begun weight s
+    (boxed (second + 1) (inFour net)) sums₀ closed c b w sums
 
 abbrev μ-loop : tie.MeasureT-loop
 μ-loop t count second net from begun s weight sums₀ turn g here closed c₀ b₀ w₀ n₀ sums c b w n = count - c
@@ -58,8 +59,11 @@ share-requires c κs = let n = first (c) .pre .0 .able .good .few in (omega arit
 four-two-requires : tie.Need-four-two-requires Inv-loop μ-loop
 four-two-requires c κs =
     let i = c .before in
-    let p = first i .pre in
-    (inside-here _ _ _ _ _ _ _ (p .1) (i .loop-test .taken) (i .before .before .before .before .group .ensures .0) (c .share .ensures), small-low _ 2 (omega arith) (omega arith) (p .2))
+    let p = first i .pre in (
+      inside-here _ _ _ _ _ _ _ (p .1) (i .loop-test .taken) (i .before .before .before .before .group .ensures .0) (c .share .ensures),
+      small-low _ 2
+          (omega arith) (omega arith) (p .2),
+    )
 
 chosen-requires : tie.Need-chosen-requires Inv-loop μ-loop
 chosen-requires c κs = search needs
@@ -84,13 +88,16 @@ weight-of-requires c κs = let n = first (c .before .before .before .before .bef
 mul-v : tie.Need-mul-v Inv-loop μ-loop
 mul-v c =
     let i = c .before .before .before .before .before .before in
-    let p = next-small _ _ _ _ _ _ _ _ _ _ (first i .pre .0) _ 1 refl _ _ _ _ _ (i .before .loop .inv .2) (i .loop-test .taken) _ _ (c .before .key .ensures) (c .weight-of .ensures) in
+    let p = next-small _ _ _ _ _ _ _ _ _ _ (first i .pre .0) _ 1 refl _ _ _ _ _ (i .before .loop .inv .2) (i .loop-test .taken) _ _
+    (c .before .key .ensures) (c .weight-of .ensures) in
     omega arith
 
 last-row-requires : tie.Need-last-row-requires Inv-loop μ-loop
 last-row-requires c κs =
     let i = turning c in (
-      next-ready _ _ _ _ _ _ _ _ _ _ (first i .pre .0) _ 1 refl _ _ _ _ _ (i .before .loop .inv .2) (i .loop-test .taken) _ _ (c .before .before .key .ensures) (c .before .weight-of .ensures) _ refl _ _ (c .before .before .before .before .chosen .ensures) (c .before .before .before .chosen2 .ensures),
+      next-ready _ _ _ _ _ _ _ _ _ _ (first i .pre .0) _ 1 refl _ _ _ _ _ (i .before .loop .inv .2) (i .loop-test .taken) _ _
+          (c .before .before .key .ensures) (c .before .weight-of .ensures) _ refl _ _ (c .before .before .before .before .chosen .ensures)
+          (c .before .before .before .chosen2 .ensures),
       first i .pre .1,
       small-up _ 1 (omega arith) (c .before .before .before .before .before .four-two .ensures .most (entryMost 2) (first i .pre .2)),
     )
@@ -102,7 +109,12 @@ add-n-2 : tie.Need-add-n-2 Inv-loop μ-loop
 add-n-2 c =
     let i = turning (c .before .before) in
     let few = first i .pre .0 .able .good .few in
-    omega (arith, counted-small _ _ _ _ 1 _ _ (omega arith) (c .before .last-row .ensures .0), counting-small _ _ _ _ 1 _ _ _ (omega arith) (omega arith) (i .before .loop .inv .1))
+    omega (
+      arith,
+      counted-small _ _ _ _ 1 _ _ (omega arith) (c .before .last-row .ensures .0),
+      counting-small _ _ _ _ 1 _ _ _ (omega arith)
+          (omega arith) (i .before .loop .inv .1),
+    )
 
 add-c : tie.Need-add-c Inv-loop μ-loop
 add-c c = let n = first (turning (c .before .before)) .pre .0 .able .good .few in omega arith
@@ -116,9 +128,14 @@ loop-again c =
     let d = c .before .before in
     let i = turning d in (
       omega arith,
-      one-counted _ _ _ _ 1 _ _ _ _ _ 2 _ refl (d .before .before .before .before .chosen .ensures) (i .loop-test .taken) refl (omega arith) (i .before .loop .inv .1) (c .before .last-row .ensures .0),
-      one-more _ _ _ _ _ _ _ _ _ _ (first i .pre .0) _ 1 refl _ _ _ _ _ (i .before .loop .inv .2) (i .loop-test .taken) _ _ (d .before .before .key .ensures) (d .before .weight-of .ensures) _ refl _ _ (d .before .before .before .before .chosen .ensures) (d .before .before .before .chosen2 .ensures) (boxed _ _)
-          (box-same _ _ _ 1 _ _ _ _ _ _ 2 (i .before .before .before .before .group .ensures .0) (d .before .before .before .before .before .before .share .ensures) (gap-two _) (size-two _) (d .before .before .before .before .before .four-two .ensures))
+      one-counted _ _ _ _ 1 _ _ _ _ _ 2 _ refl (d .before .before .before .before .chosen .ensures) (i .loop-test .taken) refl (omega arith)
+          (i .before .loop .inv .1) (c .before .last-row .ensures .0),
+      one-more _ _ _ _ _ _ _ _ _ _ (first i .pre .0) _ 1 refl _ _ _ _ _ (i .before .loop .inv .2) (i .loop-test .taken) _ _
+          (d .before .before .key .ensures) (d .before .weight-of .ensures) _ refl _ _ (d .before .before .before .before .chosen .ensures)
+          (d .before .before .before .chosen2 .ensures) (boxed _ _)
+          (box-same _ _ _ 1 _ _ _ _ _ _ 2 (i .before .before .before .before .group .ensures .0)
+          (d .before .before .before .before .before .before .share .ensures) (gap-two _) (size-two _)
+          (d .before .before .before .before .before .four-two .ensures))
           _ (i .before .before .before .of-group .ensures) _ (c .before .last-row .ensures .1),
     )
 
@@ -127,8 +144,11 @@ same-length c = c .before .loop .inv .2 .toward .long
 
 returns : tie.Need-returns Inv-loop μ-loop
 returns c =
-    let r = c .before .before .before .before .before .pre .0 in
-    (all-counted _ _ _ _ 1 _ _ _ (r .able .good .few) (omega arith) (c .before .loop .inv .1), all-done _ _ _ _ _ _ _ _ _ _ r _ 1 refl _ _ _ _ _ (c .before .loop .inv .2) (c .loop-test .left))
+    let r = c .before .before .before .before .before .pre .0 in (
+      all-counted _ _ _ _ 1 _ _ _ (r .able .good .few) (omega arith) (c .before .loop .inv .1),
+      all-done _ _ _ _ _ _ _ _ _ _ r _ 1 refl _ _ _ _ _
+          (c .before .loop .inv .2) (c .loop-test .left),
+    )
 
 pub pair-row-spec : {M : Type 1} → statement M
 pair-row-spec =

@@ -22,7 +22,8 @@ use Rattle.gather.proofs.pair_tri.Tie as tie
 abbrev Inv-loop : tie.InvT-loop
 Inv-loop t count net from begun s weight sums₀ closed c₀ b₀ w₀ n₀ sums c b w n =
     (c ≤ count) × Counting t count 2 0 1 from c n
-    × Sofar (readAt t count 0 2) (restAt t count 0 2) (termsOf t count (groupAt 0 0 2)) (ofGroup 0 2) from begun weight s (held (inSix net)) sums₀ closed c b w sums
+    × Sofar (readAt t count 0 2) (restAt t count 0 2) (termsOf t count (groupAt 0 0 2)) (ofGroup 0 2) from begun weight s (held (inSix net)) sums₀
+    closed c b w sums
 
 abbrev μ-loop : tie.MeasureT-loop
 μ-loop t count net from begun s weight sums₀ closed c₀ b₀ w₀ n₀ sums c b w n = count - c
@@ -43,8 +44,12 @@ mul-closed c =
 
 loop-holds : tie.Need-loop-holds Inv-loop μ-loop
 loop-holds c =
-    let r = c .before .pre .0 in
-    (let h = r .able .here in omega arith, none-yet _ _ _ _ _ _, start _ _ _ _ _ _ _ _ _ _ r _ _ _ (all-of (c .before .args .t .now) (c .before .args .count) 2 (omega arith)) (c .arrangements .ensures .0))
+    let r = c .before .pre .0 in (
+      let h = r .able .here in omega arith,
+      none-yet _ _ _ _ _ _,
+      start _ _ _ _ _ _ _ _ _ _ r _ _ _
+          (all-of (c .before .args .t .now) (c .before .args .count) 2 (omega arith)) (c .arrangements .ensures .0),
+    )
 
 share-requires : tie.Need-share-requires Inv-loop μ-loop
 share-requires c κs = let n = first (c) .pre .0 .able .good .few in (omega arith, omega arith)
@@ -75,13 +80,15 @@ weight-of-requires c κs = let n = first (c .before .before .before .before) .pr
 mul-v : tie.Need-mul-v Inv-loop μ-loop
 mul-v c =
     let i = c .before .before .before .before .before in
-    let p = next-small _ _ _ _ _ _ _ _ _ _ (first i .pre .0) _ 1 refl _ _ _ _ _ (i .before .loop .inv .2) (i .loop-test .taken) _ _ (c .before .key .ensures) (c .weight-of .ensures) in
+    let p = next-small _ _ _ _ _ _ _ _ _ _ (first i .pre .0) _ 1 refl _ _ _ _ _ (i .before .loop .inv .2) (i .loop-test .taken) _ _
+    (c .before .key .ensures) (c .weight-of .ensures) in
     omega arith
 
 last-tri-requires : tie.Need-last-tri-requires Inv-loop μ-loop
 last-tri-requires c κs =
     let i = turning c in (
-      next-ready _ _ _ _ _ _ _ _ _ _ (first i .pre .0) _ 1 refl _ _ _ _ _ (i .before .loop .inv .2) (i .loop-test .taken) _ _ (c .before .before .key .ensures) (c .before .weight-of .ensures) false refl _ _ refl refl,
+      next-ready _ _ _ _ _ _ _ _ _ _ (first i .pre .0) _ 1 refl _ _ _ _ _ (i .before .loop .inv .2) (i .loop-test .taken) _ _
+          (c .before .before .key .ensures) (c .before .weight-of .ensures) false refl _ _ refl refl,
       first i .pre .1,
       small-up _ 1 (omega arith) (c .before .before .before .six-three .ensures .most (entryMost 2) (first i .pre .2)),
     )
@@ -93,7 +100,12 @@ add-n-2 : tie.Need-add-n-2 Inv-loop μ-loop
 add-n-2 c =
     let i = turning (c .before .before) in
     let few = first i .pre .0 .able .good .few in
-    omega (arith, counted-small _ _ _ _ 1 _ _ (omega arith) (c .before .last-tri .ensures .0), counting-small _ _ _ _ 1 _ _ _ (omega arith) (omega arith) (i .before .loop .inv .1))
+    omega (
+      arith,
+      counted-small _ _ _ _ 1 _ _ (omega arith) (c .before .last-tri .ensures .0),
+      counting-small _ _ _ _ 1 _ _ _ (omega arith)
+          (omega arith) (i .before .loop .inv .1),
+    )
 
 add-c : tie.Need-add-c Inv-loop μ-loop
 add-c c = let n = first (turning (c .before .before)) .pre .0 .able .good .few in omega arith
@@ -108,8 +120,10 @@ loop-again c =
     let i = turning d in (
       omega arith,
       one-counted _ _ _ _ 1 _ _ _ _ _ 3 false refl refl (i .loop-test .taken) refl (omega arith) (i .before .loop .inv .1) (c .before .last-tri .ensures .0),
-      one-more _ _ _ _ _ _ _ _ _ _ (first i .pre .0) _ 1 refl _ _ _ _ _ (i .before .loop .inv .2) (i .loop-test .taken) _ _ (d .before .before .key .ensures) (d .before .weight-of .ensures) false refl _ _ refl refl (held _)
-          (triangle-same _ _ 1 _ _ _ _ _ (omega arith) (d .before .before .before .before .before .share .ensures) (d .before .before .before .before .share2 .ensures) (d .before .before .before .six-three .ensures))
+      one-more _ _ _ _ _ _ _ _ _ _ (first i .pre .0) _ 1 refl _ _ _ _ _ (i .before .loop .inv .2) (i .loop-test .taken) _ _
+          (d .before .before .key .ensures) (d .before .weight-of .ensures) false refl _ _ refl refl (held _)
+          (triangle-same _ _ 1 _ _ _ _ _ (omega arith) (d .before .before .before .before .before .share .ensures)
+          (d .before .before .before .before .share2 .ensures) (d .before .before .before .six-three .ensures))
           2 (all-of (first i .args .t .now) (first i .args .count) 2 (omega arith)) _ (c .before .last-tri .ensures .1),
     )
 
@@ -118,8 +132,11 @@ same-length c = c .before .loop .inv .2 .toward .long
 
 returns : tie.Need-returns Inv-loop μ-loop
 returns c =
-    let r = c .before .before .before .pre .0 in
-    (all-counted _ _ _ _ 1 _ _ _ (r .able .good .few) (omega arith) (c .before .loop .inv .1), all-done _ _ _ _ _ _ _ _ _ _ r _ 1 refl _ _ _ _ _ (c .before .loop .inv .2) (c .loop-test .left))
+    let r = c .before .before .before .pre .0 in (
+      all-counted _ _ _ _ 1 _ _ _ (r .able .good .few) (omega arith) (c .before .loop .inv .1),
+      all-done _ _ _ _ _ _ _ _ _ _ r _ 1 refl _ _ _ _ _
+          (c .before .loop .inv .2) (c .loop-test .left),
+    )
 
 pub pair-tri-spec : {M : Type 1} → statement M
 pair-tri-spec =

@@ -20,7 +20,7 @@ rq s = record { head = s .args .head; surface = s .args .surface .now; path = s 
 
 -- what is decided by the tests from test k on
 abbrev from : tie.Start → ℕ → Answer
-from s k = decided (first (drop k (refusals (rq s) (s .args .age .0) (s .args .exact-room) (s .args .points-room)))) (accepted (s .args .head))
+from s k = decided (first (drop k (refusals (rq s) (s .args .age .0) (s .args .rooms)))) (accepted (s .args .head))
 
 -- where the function begins, from behind each test
 abbrev start1 : tie.Else1 → tie.Start

@@ -14,6 +14,7 @@ use Rattle.request.specs.Refusal.{notValue, notParameter, notBalance, valuePlac
 use Rattle.request.proofs.Forms.{small, at-triangle, at-others}
 use Rattle.request.proofs.Bounds.{parameter-most}
 use Rattle.request.proofs.Cascade.{here, past, end}
+use Rattle.judge.specs.Places.{noRooms}
 use Rattle.judge.proofs.judge_numbers.Statement.{statement}
 use Rattle.judge.proofs.judge_numbers.Tie as tie
 
@@ -22,7 +23,7 @@ rq s = record { head = s .args .head; surface = s .args .surface .now; path = s 
 
 -- what is decided by the tests from test k on
 abbrev from : tie.Start → ℕ → Answer
-from s k = decided (first (drop k (refusals (rq s) 0 0 0))) (accepted (s .args .head))
+from s k = decided (first (drop k (refusals (rq s) 0 noRooms))) (accepted (s .args .head))
 
 -- where the function begins, from behind each test
 abbrev start1 : tie.Else1 → tie.Start

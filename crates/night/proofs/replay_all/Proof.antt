@@ -22,7 +22,8 @@ finish-requires : tie.Need-finish-requires
 finish-requires c κs = search needs
 
 returns : tie.Need-returns
-returns c = failed _ _ _ _ _ (c .before .before .before .before .before .before .new .ensures) (c .before .before .before .before .read-all .ensures) (c .before .finish .ensures) _ (c .if1 .taken)
+returns c = failed _ _ _ _ _ (c .before .before .before .before .before .before .new .ensures) (c .before .before .before .before .read-all .ensures)
+    (c .before .finish .ensures) _ (c .if1 .taken)
 
 slice-aggregate-write-five : tie.Need-slice-aggregate-write-five
 slice-aggregate-write-five c = search needs
@@ -43,7 +44,9 @@ returns-2 : tie.Need-returns-2
 returns-2 c =
     let read = c .before .before .before .before .before .before .before .before .before in
     let told = c .before .before .before .write-five in
-    written _ _ _ _ _ (c .before .before .before .before .before .before .before .before .before .before .before .new .ensures) (read .read-all .ensures) (c .before .before .before .before .before .before .finish .ensures) _ _ _ _ _ (c .before .before .before .before .before .if1 .left)
+    written _ _ _ _ _ (c .before .before .before .before .before .before .before .before .before .before .before .new .ensures)
+    (read .read-all .ensures) (c .before .before .before .before .before .before .finish .ensures) _ _ _ _ _
+    (c .before .before .before .before .before .if1 .left)
     (search needs) (told .ensures) (c .write .ensures)
 
 pub replay-all-spec : {M : Type 1} → statement M

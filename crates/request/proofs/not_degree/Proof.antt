@@ -3,7 +3,7 @@
 use mathlib.Core.Bool.{or-true}
 use native.Mathlib.Omega.{arith}
 use borrow.Author.Tests.{lt-ltb}
-use Rattle.request.specs.Head.{degree}
+use Rattle.request.specs.Head.{mostDegree, mostN, degree}
 use Rattle.request.specs.Refusal.{notDegree}
 use Rattle.request.proofs.Forms.{first-le, small-tensor, small-outer}
 use Rattle.request.proofs.not_degree.Statement.{statement}
@@ -11,11 +11,11 @@ use Rattle.request.proofs.not_degree.Tie as tie
 
 returns : tie.Need-returns
 unfolding notDegree
-returns c = rw (lt-ltb 4 (degree (c .before .args .head)) (omega (arith, first-le (c .before .args .head))))
+returns c = rw (lt-ltb mostDegree (degree (c .before .args .head)) (omega (arith, first-le (c .before .args .head))))
 
 returns-2 : tie.Need-returns-2
 unfolding notDegree
-returns-2 c = simp (lt-ltb 3 (c .before .before .before .args .head .N) (omega arith), or-true)
+returns-2 c = simp (lt-ltb mostN (c .before .before .before .args .head .N) (omega arith), or-true)
 
 returns-3 : tie.Need-returns-3
 returns-3 c = small-tensor _ (c .if3 .taken) (omega arith) (omega arith)

@@ -18,8 +18,11 @@ sum-requires c κs = rw (c .product .ensures .1, c .before .minus .ensures) (ome
 returns : tie.Need-returns
 returns c =
     let a = c .before .before .before .args in
-    let p = c .before .product .ensures in
-    (c .sum .ensures .0 ∙ rw (p .0, c .before .before .minus .ensures) (less-is (a .a .0) (a .b .0)), omega (arith, c .sum .ensures .1, rw (c .before .before .minus .ensures) at (p .1)))
+    let p = c .before .product .ensures in (
+      c .sum .ensures .0 ∙ rw (p .0, c .before .before .minus .ensures) (less-is (a .a .0) (a .b .0)),
+      omega
+          (arith, c .sum .ensures .1, rw (c .before .before .minus .ensures) at (p .1)),
+    )
 
 pub less-spec : {M : Type 1} → statement M
 less-spec = tie.close (tie.spec minus-requires product-requires sum-requires returns)

@@ -32,7 +32,8 @@ put-requires-4 : tie.Need-put-requires-4
 put-requires-4 c κs = search needs
 
 tri-requires-5 : tie.Need-tri-requires-5
-tri-requires-5 c κs = let p = c .before .before .before .before .before .before .before .before .before .before .before .before .before .pre in (p .0, omega arith, omega arith, p .1)
+tri-requires-5 c κs = let p = c .before .before .before .before .before .before .before .before .before .before .before .before .before .pre in
+    (p .0, omega arith, omega arith, p .1)
 
 put-requires-5 : tie.Need-put-requires-5
 put-requires-5 c κs = search needs
@@ -81,8 +82,30 @@ returns c =
     let p2 = p3 .before .before .before in
     let p1 = p2 .before .before .before in
     let st = p1 .before .before .before in
-    rw (p10 .put10 .ensures, p9 .put9 .ensures, p8 .put8 .ensures, p7 .put7 .ensures, p6 .put6 .ensures, p5 .put5 .ensures, p4 .put4 .ensures, p3 .put3 .ensures, p2 .put2 .ensures, p1 .put .ensures)
-    (rw (p10 .before .tri10 .ensures, p9 .before .tri9 .ensures, p8 .before .tri8 .ensures, p7 .before .tri7 .ensures, p6 .before .tri6 .ensures, p5 .before .tri5 .ensures, p4 .before .tri4 .ensures, p3 .before .tri3 .ensures, p2 .before .tri2 .ensures, p1 .before .tri .ensures)
+    rw (
+      p10 .put10 .ensures,
+      p9 .put9 .ensures,
+      p8 .put8 .ensures,
+      p7 .put7 .ensures,
+      p6 .put6 .ensures,
+      p5 .put5 .ensures,
+      p4 .put4 .ensures,
+      p3 .put3 .ensures,
+      p2 .put2 .ensures,
+      p1 .put .ensures,
+    )
+    (rw (
+      p10 .before .tri10 .ensures,
+      p9 .before .tri9 .ensures,
+      p8 .before .tri8 .ensures,
+      p7 .before .tri7 .ensures,
+      p6 .before .tri6 .ensures,
+      p5 .before .tri5 .ensures,
+      p4 .before .tri4 .ensures,
+      p3 .before .tri3 .ensures,
+      p2 .before .tri2 .ensures,
+      p1 .before .tri .ensures,
+    )
     (front-lowered (st .args .p .now) (st .args .x) (st .args .y) 4 5 (st .pre .0)))
 
 pub lowered-spec : {M : Type 1} → statement M

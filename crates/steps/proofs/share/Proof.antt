@@ -14,7 +14,11 @@ product-requires : tie.Need-product-requires
 product-requires c κs = rw (c .plus .ensures) (lt-of-le-of-lt (mul-le-mul-right _ (c .before .pre .0)) (c .before .pre .1))
 
 returns : tie.Need-returns
-returns c = (c .product .ensures .0 ∙ ap (λ n. n *ℤ c .before .before .args .a .0) (c .before .plus .ensures), c .product .ensures .1 ∙ ap (λ n. natAbs n * natAbs (c .before .before .args .a .0)) (c .before .plus .ensures))
+returns c = (
+  c .product .ensures .0 ∙ ap (λ n. n *ℤ c .before .before .args .a .0) (c .before .plus .ensures),
+  c .product .ensures .1 ∙ ap
+      (λ n. natAbs n * natAbs (c .before .before .args .a .0)) (c .before .plus .ensures),
+)
 
 pub share-spec : {M : Type 1} → statement M
 share-spec = tie.close (tie.spec plus-requires product-requires returns)

@@ -25,7 +25,8 @@ put-requires-3 : tie.Need-put-requires-3
 put-requires-3 c κs = search needs
 
 slide-requires-4 : tie.Need-slide-requires-4
-slide-requires-4 c κs = let p = c .before .before .before .before .before .before .before .before .before .before .pre in (p .0, omega (arith, p .1), omega (arith, p .1), p .3)
+slide-requires-4 c κs = let p = c .before .before .before .before .before .before .before .before .before .before .pre in
+    (p .0, omega (arith, p .1), omega (arith, p .1), p .3)
 
 put-requires-4 : tie.Need-put-requires-4
 put-requires-4 c κs = search needs
@@ -43,7 +44,8 @@ returns c =
     (front-slid (st .args .p .now) (st .args .s) (st .args .gap) (st .args .count) 4 11 (st .pre .0) (omega arith)))
 
 slide-requires-5 : tie.Need-slide-requires-5
-slide-requires-5 c κs = let p = c .before .before .before .before .before .before .before .before .before .before .before .before .before .before .pre in (p .0, omega (arith, p .1), omega (arith, p .1), p .3)
+slide-requires-5 c κs = let p = c .before .before .before .before .before .before .before .before .before .before .before .before .before .before .pre
+    in (p .0, omega (arith, p .1), omega (arith, p .1), p .3)
 
 put-requires-5 : tie.Need-put-requires-5
 put-requires-5 c κs = search needs
@@ -65,7 +67,14 @@ returns-2 c =
     let p1 = p2 .before .before .before in
     let st = p1 .before .before .before in
     rw (p6 .put6 .ensures, p5 .put5 .ensures, p4 .put4 .ensures, p3 .put3 .ensures, p2 .put2 .ensures, p1 .put .ensures)
-    (rw (p6 .before .slide6 .ensures, p5 .before .slide5 .ensures, p4 .before .slide4 .ensures, p3 .before .slide3 .ensures, p2 .before .slide2 .ensures, p1 .before .slide .ensures)
+    (rw (
+      p6 .before .slide6 .ensures,
+      p5 .before .slide5 .ensures,
+      p4 .before .slide4 .ensures,
+      p3 .before .slide3 .ensures,
+      p2 .before .slide2 .ensures,
+      p1 .before .slide .ensures,
+    )
     (front-slid (st .args .p .now) (st .args .s) (st .args .gap) (st .args .count) 6 9 (st .pre .0) (st .pre .2)))
 
 pub slid-spec : {M : Type 1} → statement M

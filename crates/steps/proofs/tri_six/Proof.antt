@@ -28,7 +28,14 @@ returns : tie.Need-returns
 unfolding front before further diagonal
 returns c =
     let st = c .before .before .before .before .before .before in
-    rw (c .before .before .before .before .before .tri .ensures, c .before .before .before .before .tri2 .ensures, c .before .before .before .tri3 .ensures, c .before .before .tri4 .ensures, c .before .tri5 .ensures, c .tri6 .ensures)
+    rw (
+      c .before .before .before .before .before .tri .ensures,
+      c .before .before .before .before .tri2 .ensures,
+      c .before .before .before .tri3 .ensures,
+      c .before .before .tri4 .ensures,
+      c .before .tri5 .ensures,
+      c .tri6 .ensures,
+    )
     (front-lowered (st .args .p .now) (st .args .x) (st .args .y) 3 0 (st .pre .0))
 
 pub tri-six-spec : {M : Type 1} → statement M

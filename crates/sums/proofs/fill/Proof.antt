@@ -55,8 +55,10 @@ store-term-requires c κs =
     let g = a .pre .2 .numbers in (
       omega arith,
       omega (arith, entry-bound (a .args .head .N) (i .before .loop .c), c .binomial .ensures),
-      path-most (a .args .path .now) g (c .before .before .before .before .numbers .result * i .before .loop .c) _ (c .before .before .before .path-size-at .ensures),
-      beside-most (a .args .path .now) g (c .before .before .before .before .numbers .result) (c .before .before .before .before .numbers .result * i .before .loop .c + 1) _ (c .before .before .beside .ensures),
+      path-most (a .args .path .now) g (c .before .before .before .before .numbers .result * i .before .loop .c) _
+          (c .before .before .before .path-size-at .ensures),
+      beside-most (a .args .path .now) g (c .before .before .before .before .numbers .result)
+          (c .before .before .before .before .numbers .result * i .before .loop .c + 1) _ (c .before .before .beside .ensures),
     )
 
 add-c : tie.Need-add-c Inv-loop μ-loop
@@ -80,7 +82,8 @@ loop-again c =
       rw e
           (below-more (PointAt (a .args .head) (a .args .path .now) _) (l .loop .c)
           (λ d m. still (a .args .head) (a .args .path .now) (l .loop .t) (l .loop .c) (omega arith) (v .1) _ _ _ d m (v .2 d m))
-          (here (a .args .head) (a .args .path .now) (l .loop .t) (l .loop .c) (omega arith) (v .1) _ _ _ w (a .pre .2 .numbers) _ (b .before .before .before .before .numbers .ensures .0)
+          (here (a .args .head) (a .args .path .now) (l .loop .t) (l .loop .c) (omega arith) (v .1) _ _ _ w (a .pre .2 .numbers) _
+          (b .before .before .before .before .numbers .ensures .0)
           (b .before .before .before .path-size-at .ensures) (b .before .before .beside .ensures))),
     )
 

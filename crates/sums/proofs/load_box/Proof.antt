@@ -72,8 +72,28 @@ returns c =
     let p2 = p3 .before .before .before in
     let p1 = p2 .before .before .before in
     let st = p1 .before .before .before in
-    rw (p9 .put9 .ensures, p8 .put8 .ensures, p7 .put7 .ensures, p6 .put6 .ensures, p5 .put5 .ensures, p4 .put4 .ensures, p3 .put3 .ensures, p2 .put2 .ensures, p1 .put .ensures)
-    (rw (p9 .before .travel9 .ensures, p8 .before .travel8 .ensures, p7 .before .travel7 .ensures, p6 .before .travel6 .ensures, p5 .before .travel5 .ensures, p4 .before .travel4 .ensures, p3 .before .travel3 .ensures, p2 .before .travel2 .ensures, p1 .before .travel .ensures)
+    rw (
+      p9 .put9 .ensures,
+      p8 .put8 .ensures,
+      p7 .put7 .ensures,
+      p6 .put6 .ensures,
+      p5 .put5 .ensures,
+      p4 .put4 .ensures,
+      p3 .put3 .ensures,
+      p2 .put2 .ensures,
+      p1 .put .ensures,
+    )
+    (rw (
+      p9 .before .travel9 .ensures,
+      p8 .before .travel8 .ensures,
+      p7 .before .travel7 .ensures,
+      p6 .before .travel6 .ensures,
+      p5 .before .travel5 .ensures,
+      p4 .before .travel4 .ensures,
+      p3 .before .travel3 .ensures,
+      p2 .before .travel2 .ensures,
+      p1 .before .travel .ensures,
+    )
     (box-loaded (st .args .surface .now) (st .pre)))
 
 pub load-box-spec : {M : Type 1} → statement M

@@ -130,7 +130,18 @@ returns-2 c =
     let l = st .args .surface .now in
     let d = st .args .n in
     let e : d ≡ 3 = let p = st .pre in omega (arith, c .if2 .taken, p7 .before .before .before .if1 .left) in
-    rw (p10 .put10 .ensures, p9 .put9 .ensures, p8 .put8 .ensures, p7 .put7 .ensures, p6 .put6 .ensures, p5 .put5 .ensures, p4 .put4 .ensures, p3 .put3 .ensures, p2 .put2 .ensures, p1 .put .ensures)
+    rw (
+      p10 .put10 .ensures,
+      p9 .put9 .ensures,
+      p8 .put8 .ensures,
+      p7 .put7 .ensures,
+      p6 .put6 .ensures,
+      p5 .put5 .ensures,
+      p4 .put4 .ensures,
+      p3 .put3 .ensures,
+      p2 .put2 .ensures,
+      p1 .put .ensures,
+    )
     (rw (
       p10 .before .travel10 .ensures ∙ place-9 d l (omega arith),
       p9 .before .travel9 .ensures ∙ place-8 d l (omega arith),
@@ -209,7 +220,23 @@ returns-3 c =
     let l = st .args .surface .now in
     let d = st .args .n in
     let e : d ≡ 4 = let p = st .pre in omega (arith, p11 .before .before .before .if2 .left) in
-    rw (p15 .put15 .ensures, p14 .put14 .ensures, p13 .put13 .ensures, p12 .put12 .ensures, p11 .put11 .ensures, p10 .put10 .ensures, p9 .put9 .ensures, p8 .put8 .ensures, p7 .put7 .ensures, p6 .put6 .ensures, p5 .put5 .ensures, p4 .put4 .ensures, p3 .put3 .ensures, p2 .put2 .ensures, p1 .put .ensures)
+    rw (
+      p15 .put15 .ensures,
+      p14 .put14 .ensures,
+      p13 .put13 .ensures,
+      p12 .put12 .ensures,
+      p11 .put11 .ensures,
+      p10 .put10 .ensures,
+      p9 .put9 .ensures,
+      p8 .put8 .ensures,
+      p7 .put7 .ensures,
+      p6 .put6 .ensures,
+      p5 .put5 .ensures,
+      p4 .put4 .ensures,
+      p3 .put3 .ensures,
+      p2 .put2 .ensures,
+      p1 .put .ensures,
+    )
     (rw (
       p15 .before .travel15 .ensures ∙ place-14 d l e,
       p14 .before .travel14 .ensures ∙ place-13 d l (omega arith),

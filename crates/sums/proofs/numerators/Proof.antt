@@ -71,7 +71,8 @@ returns-2 c =
     let f = b .before in
     let d = f .before .before .before .before in
     let s = d .before in
-    row-leaves (rq s) (s .pre .1) _ (f .fill .ensures) _ (d .degree .ensures) _ (s .pre .2) (flat-form _ (sym (b .flat .ensures) ∙ i .if2 .taken)) _ _ (c .before .rectangle .ensures)
+    row-leaves (rq s) (s .pre .1) _ (f .fill .ensures) _ (d .degree .ensures) _ (s .pre .2) (flat-form _ (sym (b .flat .ensures) ∙ i .if2 .taken)) _ _
+    (c .before .rectangle .ensures)
 
 triangle-requires : tie.Need-triangle-requires
 triangle-requires c κs =
@@ -101,7 +102,8 @@ returns-3 c =
     let s = d .before in
     let o = or-none _ _ (sym (b .flat .ensures) ∙ i .if2 .left) in
     let some : 0 < d .degree .result = let o = f .before .before .before .if1 .left in omega arith in
-    triangle-leaves (rq s) (s .pre .1) _ (f .fill .ensures) _ (d .degree .ensures) _ (s .pre .2) some (other-form _ 1 (o .0)) (other-form _ 2 (o .1)) _ _ (c .before .triangle .ensures)
+    triangle-leaves (rq s) (s .pre .1) _ (f .fill .ensures) _ (d .degree .ensures) _ (s .pre .2) some (other-form _ 1 (o .0)) (other-form _ 2 (o .1))
+    _ _ (c .before .triangle .ensures)
 
 pub numerators-spec : {M : Type 1} → statement M
 numerators-spec =

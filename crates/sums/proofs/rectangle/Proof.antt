@@ -31,7 +31,8 @@ unfolding front
 returns c =
     let b = c .before .before .before in
     let i = b .before .before in
-    one-done _ _ _ _ _ (i .before .args .surface .now) _ _ (i .if1 .taken) (rw (b .before .travel .ensures, b .travel2 .ensures) at (c .before .last-row .ensures))
+    one-done _ _ _ _ _ (i .before .args .surface .now) _ _ (i .if1 .taken) (rw (b .before .travel .ensures, b .travel2 .ensures) at
+    (c .before .last-row .ensures))
 
 load-box-requires : tie.Need-load-box-requires
 load-box-requires c κs = search needs

@@ -32,7 +32,12 @@ store-requires-4 c κs = search needs
 returns : tie.Need-returns
 returns c =
     let a = c .before .before .before .before .before .before .before .before .args in
-    rw (c .store4 .ensures, c .before .before .store3 .ensures, c .before .before .before .before .store2 .ensures, c .before .before .before .before .before .before .store .ensures)
+    rw (
+      c .store4 .ensures,
+      c .before .before .store3 .ensures,
+      c .before .before .before .before .store2 .ensures,
+      c .before .before .before .before .before .before .store .ensures,
+    )
     (four-stores (a .t .now) (4 * a .c) (a .c) (a .weight) (a .a) (a .b))
 
 pub store-term-spec : {M : Type 1} → statement M

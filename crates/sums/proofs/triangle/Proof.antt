@@ -23,7 +23,8 @@ last-tri-requires c κs =
     let p = i .before .pre in (
       rw (i .if1 .taken) at (p .1),
       p .2,
-      rw (b .before .before .travel .ensures, b .before .travel2 .ensures, b .travel3 .ensures) (few-small (i .before .args .surface .now) 3 1 (p .3) (omega arith)),
+      rw (b .before .before .travel .ensures, b .before .travel2 .ensures, b .travel3 .ensures)
+          (few-small (i .before .args .surface .now) 3 1 (p .3) (omega arith)),
     )
 
 same-length : tie.Need-same-length

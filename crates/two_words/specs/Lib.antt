@@ -1,0 +1,2 @@
+-- A whole number by two words. Assumes nothing.
+pub mod Words

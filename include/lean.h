@@ -1,0 +1,49 @@
+/* The lean curve composer, for C and Rust: document 01's entry with every array lent.
+ *
+ * A surface F, a path G, and the composed curve H = F(G), exactly, in whole numbers. Each slice is a pointer and a length in
+ * elements; no pointer may be null, also where its length is 0, and no two slices may overlap. Any numbers are legal, and so
+ * are arrays of any lengths: what is wrong with a request is answered. It always returns.
+ */
+#ifndef LEAN_H
+#define LEAN_H
+
+#include <stddef.h>
+#include <stdint.h>
+
+#ifdef __cplusplus
+extern "C" {
+#endif
+
+enum {
+    LEAN_WORDS = 3,      /* the answer's words: number, place, count */
+    LEAN_MOST_PLACES = 25 /* the places of the longest answer: r = 4, N = 6, L + 1 = 25 */
+};
+
+/* The answer's number, in the order of judgement, is one of enum LEAN_ in lean_door.h, without FRAME, or:
+ *   3  SURFACE  count of control values is not m+1, (l+1)(m+1) or (n+1)(n+2)/2
+ *   4  PATH     count of path numbers is not 1, 2 or 3 times N+1
+ *   5  ROOM     high, low or points has fewer than L+1 places
+ *
+ * form     1 curve, 2 tensor surface, 3 triangular surface
+ * first    m, l or n;  second  0, m or 0: r = m, l + m or n is at most 4
+ * N        the path's degree, at most 6; L = r * N
+ * age      of the tilt sample in milliseconds; above 250 it is refused
+ * surface  control values in 0.01 mm, -4096 to 4096
+ * path     path numbers in 1/1024, 0 to 1024
+ * high     numerator R at R = 0 to L by two words, worth high * 2^64 + low: over binomial(L, R) * 1024^r it is the exact
+ * low      control point. high is rounded down, so that -1 is high -1, low 2^64 - 1
+ * points   the rounded control points in 0.01 mm, a half going away from zero
+ * words    number, place and count of the answer: 0, 0, L + 1 where it is accepted; else the refusal's number, its place, 0
+ *
+ * Accepted, the first L + 1 places of high, low and points are written, and every later place stays. Refused, none of the
+ * three changes. Returns 0; or 1 where words has fewer than three places, and then nothing at all is written. */
+uint32_t lean_compose(uint32_t form, uint32_t first, uint32_t second, uint32_t N, uint16_t age,
+                      const int32_t *surface, size_t surface_length, const int32_t *path, size_t path_length,
+                      int64_t *high, size_t high_length, uint64_t *low, size_t low_length,
+                      int32_t *points, size_t points_length, uint64_t *words, size_t words_length);
+
+#ifdef __cplusplus
+}
+#endif
+
+#endif
