@@ -1,8 +1,8 @@
-/* The lean curve composer, for C and Rust: document 01's entry with every array lent.
+/* The lean curve composer, as C functions on numbers. (As bytes, for the drive's firmware: lean_door.h.)
  *
- * A surface F, a path G, and the composed curve H = F(G), exactly, in whole numbers. Each slice is a pointer and a length in
- * elements; no pointer may be null, also where its length is 0, and no two slices may overlap. Any numbers are legal, and so
- * are arrays of any lengths: what is wrong with a request is answered. It always returns.
+ * Each array is a pointer and a length in elements. Ranges must not overlap where one of them is written, and no pointer may be
+ * null, also where its length is 0. Any numbers are legal, and so are arrays of any lengths: what is wrong is answered. Each
+ * function always returns.
  */
 #ifndef LEAN_H
 #define LEAN_H
@@ -13,6 +13,8 @@
 #ifdef __cplusplus
 extern "C" {
 #endif
+
+/* ---- a ride composed: a surface F, a path G, and the curve H = F(G), exactly, in whole numbers */
 
 enum {
     LEAN_WORDS = 3,      /* the answer's words: number, place, count */
@@ -41,6 +43,28 @@ uint32_t lean_compose(uint32_t form, uint32_t first, uint32_t second, uint32_t N
                       const int32_t *surface, size_t surface_length, const int32_t *path, size_t path_length,
                       int64_t *high, size_t high_length, uint64_t *low, size_t low_length,
                       int32_t *points, size_t points_length, uint64_t *words, size_t words_length);
+
+/* ---- a composed net, read at a tick */
+
+enum {
+    LEAN_TICK_WORDS = 3,        /* number, place and reading */
+    LEAN_TICK_POINTS = 25,      /* the most points of a net */
+    LEAN_TICK_END = 1024,       /* the moment of a ride's end */
+    LEAN_TICK_PARTS = 65536     /* the parts of 0.01 mm in which a reading counts */
+};
+
+/* The number of an answer, in the order of judgement; 0 is accepted. */
+enum {
+    LEAN_TICK_SURFACE = 3,      /* no point, or more than 25 */
+    LEAN_TICK_VALUE = 6,        /* a point beyond -4096 to 4096: the place is the least such index */
+    LEAN_TICK_MOMENT = 11       /* k above 1024 */
+};
+
+/* Reads the curve of a net of points, in 0.01 mm, at the moment k/1024, by de Casteljau's steps, each rounded to the nearest part
+ * with halves away from zero. Writes to the first three words the number of the answer, the place (0 but for VALUE) and the
+ * reading in 1/65536 of 0.01 mm (0 for a refusal), and returns 0; later words stay. With fewer than three words nothing is
+ * written and 1 is returned. */
+uint32_t lean_tick(const int32_t *points, size_t points_length, uint32_t k, int64_t *words, size_t words_length);
 
 #ifdef __cplusplus
 }

@@ -11,6 +11,7 @@ mod lent;
 mod night;
 mod plain;
 mod rides;
+mod ticks;
 
 use lent::{Lent, Long, Short};
 use rides::Ride;
@@ -107,6 +108,11 @@ fn main() {
             night::report(&short(&mut rng), &runs);
         }
         ["night-once"] => print(&night::once(&short(&mut rng))),
+        ["tick"] => {
+            let runs: [_; RUNS] = array::from_fn(|_| run("tick-once"));
+            ticks::report(&mut rng, &runs);
+        }
+        ["tick-once"] => print(&ticks::once(&mut rng)),
         ["memory", ..] => night::memory(&words[1..], &short(&mut rng)),
         _ => panic!("{} is not measured", words.join(" ")),
     }

@@ -1,8 +1,9 @@
-//! The proved composer, door and replay, as Rust calls them: none has a condition on its arguments, and slices of which one is
-//! exclusive never overlap, so all are safe. Each program links only the archive that it uses, so each is compiled where it is
-//! called.
+//! The proved composer, door, replay and reading at a tick, as Rust calls them: none has a condition on its arguments, and slices of
+//! which one is exclusive never overlap, so all are safe. Each program links only the archive that it uses, so each is compiled
+//! where it is called.
 
 use second::replay::Five;
+use second::tick::Tick;
 use second::Answer;
 
 // each slice crosses as a pointer and a length in elements
@@ -28,6 +29,7 @@ extern "C" {
     ) -> u32;
     fn door_reply(request: *const u8, request_length: usize, reply: *mut u8, reply_length: usize) -> usize;
     fn lean_replay(trace: *const u8, trace_length: usize, words: *mut u64, words_length: usize) -> u32;
+    fn lean_tick(points: *const i32, points_length: usize, k: u32, words: *mut i64, words_length: usize) -> u32;
 }
 
 /// Answers one request of document 01.
@@ -86,4 +88,14 @@ pub fn replay(trace: &[u8]) -> Five {
     assert_eq!(code, 0, "five words are enough");
     let [calls, same, differ, first, rest] = words;
     (calls, same, differ, first, rest)
+}
+
+/// The curve of these points, read at k/1024.
+#[inline]
+pub fn tick(points: &[i32], k: u32) -> Tick {
+    let mut words = [0; 3];
+    let code = unsafe { lean_tick(points.as_ptr(), points.len(), k, words.as_mut_ptr(), words.len()) };
+    assert_eq!(code, 0, "three words are enough");
+    let [number, place, reading] = words;
+    Tick { number: number as u32, place: place as u32, reading }
 }

@@ -1,4 +1,4 @@
--- The contracts of `lean_compose` and `lean_replay` fix the code and every place of every lent array: any two results that
+-- The contracts of `lean_compose`, `lean_replay` and `lean_tick` fix the code and every place of every lent array: any two results that
 -- one of them allows are equal. Assumes nothing.
 use mathlib.Core.List.{List}
 use Prim.Native.Nat.{ℕ}
@@ -7,6 +7,7 @@ use Rattle.request.specs.Request.{Request}
 use Rattle.compose.specs.Afterwards.{Arrays, arrays}
 use Rattle.exports.specs.Exported.{Exported}
 use Rattle.exports.specs.Replayed.{Replayed}
+use Rattle.exports.specs.Ticked.{Ticked}
 
 -- what a call leaves: its code, the three arrays and the words
 pub record Left : Type 0 where
@@ -21,13 +22,19 @@ composed-determined rq age lent words = record {
   only = λ l e t. record { code = e .code-is t; left = arrays (e .high-is t) (e .low-is t) (e .points-is t); words = e .words-is t };
 }
 
--- what a replay leaves: its code and the words
-pub record Words : Type 0 where
+-- what a replay and a reading leave: the code and the words
+pub record Words (A : Type 0) : Type 0 where
   pub code : ℕ
-  pub words : List ℕ
+  pub words : List A
 
-pub replayed-determined : (bytes words : List ℕ) → Determined (λ (l : Words). Replayed bytes words (l .code) (l .words))
+pub replayed-determined : (bytes words : List ℕ) → Determined (λ (l : Words ℕ). Replayed bytes words (l .code) (l .words))
 replayed-determined bytes words = record {
+  value = record { code = _; words = _ };
+  only = λ l e t. record { code = e .code-is t; words = e .words-is t };
+}
+
+pub ticked-determined : (points : List ℤ) (k : ℕ) (words : List ℤ) → Determined (λ (l : Words ℤ). Ticked points k words (l .code) (l .words))
+ticked-determined points k words = record {
   value = record { code = _; words = _ };
   only = λ l e t. record { code = e .code-is t; words = e .words-is t };
 }

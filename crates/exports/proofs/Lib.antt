@@ -1,4 +1,4 @@
--- How the composer's and the replay's own contracts give those of a call from C or Rust, and that these leave no choice.
--- Assumes nothing.
+-- How the composer's, the replay's and the reading's own contracts give those of a call from C or Rust, and that these leave
+-- no choice. Assumes nothing.
 mod Crossed
 pub mod Determined

@@ -1,7 +1,8 @@
 // The composer for C and Rust: document 01's entry with its answer in a lent array of three words, since a struct does not
-// cross alike on every machine; and in the module replay the replay likewise, in five. Each slice crosses as a pointer and
-// a length in elements.
+// cross alike on every machine; and in the modules replay and ticks the replay likewise, in five, and the reading of a curve at a
+// tick, in three. Each slice crosses as a pointer and a length in elements.
 pub mod replay;
+pub mod ticks;
 
 ghost use mathlib.Core.Path.{_≡_};
 ghost use Prim.Native.Nat.{_<_};

@@ -7,7 +7,7 @@ ghost use mathlib.Core.Bool.{false};
 ghost use Prim.Native.Nat.{_+_};
 ghost use Rattle.request.specs.Head.{longest};
 ghost use Rattle.request.specs.Request.{requestOf};
-ghost use Rattle.request.specs.Refusal.{notKind, notDegree, notRoom, accepted, answer};
+ghost use Rattle.request.specs.Refusal.{notKind, notDegree, notRoom, valuePlace, accepted, answer};
 ghost use Rattle.judge.specs.Places.{numbersJudged};
 use places::balance_place;
 use places::beyond_place;
@@ -24,6 +24,13 @@ fn place_count(head: Head) -> usize
 {
     let r = request::degree(head) as usize;
     r * (head.N as usize) + 1
+}
+
+// The least index of a control value beyond its bounds, or the surface's length: of a surface, and of a composed net.
+pub fn value_place(surface: &[i32]) -> usize
+    ensures { λ r. ⌜ r ≡ valuePlace (now (surface .entry)) ⌝ }
+{
+    beyond_place(false, surface)
 }
 
 // 5 ROOM

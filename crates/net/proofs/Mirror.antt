@@ -5,19 +5,18 @@ use mathlib.Core.Path.{_≡_, refl, sym, _∙_, ap}
 use mathlib.Core.Bool.{cond}
 use mathlib.Core.List.{List, map}
 use Prim.Native.Nat.{ℕ}
-use lib.Dec.{ltb, eqb}
+use lib.Dec.{eqb}
 use lib.IntN.{ℤ, pos, negsuc, negℤ}
-use lib.ListN.{length, getD, length-map, List·getD-map}
+use lib.ListN.{length-map, List·getD-map}
 use Rattle.whole.specs.Sum.{sumTo}
 use Rattle.whole.specs.Round.{nearest}
 use Rattle.whole.proofs.Ring.{_⊗_, ⊝_, minus-⊗, ⊗-left-comm}
-use Rattle.whole.proofs.Bound.{natAbs-neg}
 use Rattle.whole.proofs.Rounding.{nearest-neg}
-use Rattle.units.specs.Bounds.{beyondTravel, most}
 use Rattle.request.specs.declared.Rooms.{Rooms}
 use Rattle.request.specs.Head.{degree}
 use Rattle.request.specs.Request.{Request}
-use Rattle.request.specs.Refusal.{least, valuePlace, refusals, answer, notSurface, notPath, notValue, notParameter, notBalance}
+use Rattle.request.specs.Refusal.{refusals, answer, notSurface, notPath, notValue, notParameter, notBalance}
+use Rattle.request.proofs.Bounds.{value-mirrored}
 use Rattle.net.specs.Net.{Net, placeOf, netOf, pathNumber}
 use Rattle.net.specs.Blossom.{Argument, blossom}
 use Rattle.net.specs.Composed.{overChoices, total, weight, arguments, numerator, denominator, point}
@@ -26,17 +25,7 @@ use Rattle.net.proofs.Steps.{weightsOf, blossom-taken}
 use Rattle.net.proofs.Evaluation.{Linear, all-linear, taken-net}
 use Rattle.net.proofs.Powers.{sumTo-linear, choices-all, scale-cond}
 
--- ---- the answer: the bounds of a travel are those of its size
-beyond-neg : (z : ℤ) → beyondTravel (negℤ z) ≡ beyondTravel z
-unfolding beyondTravel
-beyond-neg z = ap (ltb most) (natAbs-neg z)
-
-value-mirrored : (surface : List ℤ) → valuePlace (map negℤ surface) ≡ valuePlace surface
-unfolding valuePlace
-value-mirrored surface =
-    ap (λ n. least n (λ k. beyondTravel (getD (map negℤ surface) k (pos 0)))) (length-map surface negℤ)
-    ∙ (λ t. least (length surface) (λ k. (ap beyondTravel (List·getD-map negℤ surface k (pos 0)) ∙ beyond-neg (getD surface k (pos 0))) t))
-
+-- ---- the answer
 pub answer-mirrored : (rq : Request) (age : ℕ) (rooms : Rooms) → answer (mirrored rq) age rooms ≡ answer rq age rooms
 unfolding mirrored refusals answer notSurface notPath notValue notParameter notBalance
 answer-mirrored rq age rooms = rw (length-map (rq .surface) negℤ, value-mirrored (rq .surface))
@@ -54,7 +43,8 @@ scaled : (c : ℤ) (r N R : ℕ) (arguments : List ℕ → List Argument) (p : N
     → overChoices r N (λ choice. cond (eqb (total choice) R) (pos (weight N choice) ⊗ blossom (arguments choice) (λ i j. c ⊗ p i j)) (pos 0))
     ≡ c ⊗ overChoices r N (λ choice. cond (eqb (total choice) R) (pos (weight N choice) ⊗ blossom (arguments choice) p) (pos 0))
 scaled c r N R arguments p =
-    (λ t. overChoices r N (λ choice. each choice t)) ∙ choices-all r N _ ∙ all-linear (sumTo N) (sumTo-linear N) r .scale c _ ∙ ap (λ x. c ⊗ x) (sym (choices-all r N _))
+    (λ t. overChoices r N (λ choice. each choice t)) ∙ choices-all r N _ ∙ all-linear (sumTo N) (sumTo-linear N) r .scale c _ ∙ ap (λ x. c ⊗ x)
+    (sym (choices-all r N _))
   where
     each : (choice : List ℕ) → cond (eqb (total choice) R) (pos (weight N choice) ⊗ blossom (arguments choice) (λ i j. c ⊗ p i j)) (pos 0)
         ≡ c ⊗ cond (eqb (total choice) R) (pos (weight N choice) ⊗ blossom (arguments choice) p) (pos 0)
@@ -70,7 +60,8 @@ pub numerator-mirrored : (rq : Request) (R : ℕ) → numerator (mirrored rq) R 
 unfolding numerator arguments pathNumber mirrored _⊗_ ⊝_
 numerator-mirrored rq R =
     let h = rq .head in
-    ap (λ p. overChoices (degree h) (h .N) (λ choice. cond (eqb (total choice) R) (pos (weight (h .N) choice) ⊗ blossom (arguments rq choice) p) (pos 0))) (net-mirrored rq)
+    ap (λ p. overChoices (degree h) (h .N) (λ choice. cond (eqb (total choice) R) (pos (weight (h .N) choice) ⊗ blossom (arguments rq choice) p)
+    (pos 0))) (net-mirrored rq)
     ∙ scaled (negsuc 0) (degree h) (h .N) R (arguments rq) (netOf rq) ∙ minus-⊗ (numerator rq R)
 
 pub point-mirrored : (rq : Request) (R : ℕ) → point (mirrored rq) R ≡ negℤ (point rq R)

@@ -19,7 +19,7 @@ use Rattle.net.proofs.Steps.{Weights, weightsOf, taken, blossom-taken}
 use Rattle.net.proofs.Evaluation.{Linear, all, all-linear, product, through, Evaluates}
 
 -- of a sum in which one term alone counts, that term is left
-sum-pick : (n t s : ℕ) (H : ℕ → ℕ → ℤ) → t + s ≡ n → sumOver n (λ R S. cond (eqb t R) (H R S) (pos 0)) ≡ H t s
+pub sum-pick : (n t s : ℕ) (H : ℕ → ℕ → ℤ) → t + s ≡ n → sumOver n (λ R S. cond (eqb t R) (H R S) (pos 0)) ≡ H t s
 sum-pick zero zero zero H e = sum-zero (λ R S. cond (eqb 0 R) (H R S) (pos 0))
 sum-pick zero zero (suc s) H e = absurd (omega arith)
 sum-pick zero (suc t) s H e = absurd (omega arith)
@@ -66,7 +66,13 @@ factor N a b c = pos (choose N c) ⊗ (pow a c ⊗ pow b (N - c))
 product-is : (N : ℕ) (a b : ℤ) (c : List ℕ) → product (factor N a b) c ≡ pos (weight N c) ⊗ (pow a (total c) ⊗ pow b (left N c))
 unfolding product factor weight total left
 product-is N a b [] = rw (pow-zero a, pow-zero b, one-⊗, one-⊗)
-product-is N a b (c ∷ rest) = rw (product-is N a b rest, pos-mul (choose N c) (weight N rest), pow-add a c (total rest), pow-add b (N - c) (left N rest)) (simp mul-ac)
+product-is N a b (c ∷ rest) = rw (
+  product-is N a b rest,
+  pos-mul (choose N c) (weight N rest),
+  pow-add a c (total rest),
+  pow-add b (N - c)
+      (left N rest),
+) (simp mul-ac)
 
 -- one choice stands in one numerator alone
 picked : (N : ℕ) (a b : ℤ) (n : ℕ) (c : List ℕ) (v : ℤ) → total c + left N c ≡ n

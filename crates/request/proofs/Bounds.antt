@@ -1,17 +1,18 @@
--- What PARAMETER and BALANCE leave of a path: each number is a natural number, at most 1024. Assumes nothing.
-use mathlib.Core.Path.{_≡_, sym, ap, subst}
-use mathlib.Core.List.{List}
+-- What VALUE leaves of a surface and of its mirror image, and what PARAMETER and BALANCE leave of a path: each number is a
+-- natural number, at most 1024. Assumes nothing.
+use mathlib.Core.Path.{_≡_, sym, _∙_, ap, subst}
+use mathlib.Core.List.{List, map}
 use mathlib.Core.Bool.{false, not}
 use Prim.Native.Nat.{ℕ, _+_, _*_, _≤_, _<_}
 use native.Mathlib.Decide.{decLt}
 use native.Mathlib.Omega.{arith}
-use lib.IntN.{ℤ, pos, natAbs, _+ℤ_}
+use lib.IntN.{ℤ, pos, negℤ, natAbs, _+ℤ_}
 use lib.Dec.{eqb}
-use lib.ListN.{length, getD, List·getD-eq-default}
+use lib.ListN.{length, getD, length-map, List·getD-map, List·getD-eq-default}
 use Rattle.units.specs.Bounds.{beyondTravel, beyondPath, pathOne, most}
-use Rattle.units.proofs.Within.{IsPath, path-within, zero-within, travel-within}
-use Rattle.request.specs.Refusal.{valuePlace, parameterPlace, balancePlace, uneven, isNumber}
-use Rattle.request.proofs.Least.{least-before, least-le}
+use Rattle.units.proofs.Within.{IsPath, path-within, zero-within, travel-within, within-travel, beyond-neg}
+use Rattle.request.specs.Refusal.{least, valuePlace, parameterPlace, balancePlace, uneven, isNumber}
+use Rattle.request.proofs.Least.{least-none, least-before, least-le}
 
 -- whatever holds of 0 and of each number of a list holds of what is read anywhere
 read-anywhere : (P : ℤ → Type 0) (l : List ℤ) → P (pos 0) → ((k : ℕ) → k < length l → P (getD l k (pos 0))) → (k : ℕ) → P (getD l k (pos 0))
@@ -54,6 +55,18 @@ even-points path N e c m = least-before (N + 1) (uneven path) c (rw e (omega ari
 pub value-most : (surface : List ℤ) → valuePlace surface ≤ length surface
 unfolding valuePlace
 value-most surface = least-le (length surface) (λ k. beyondTravel (getD surface k (pos 0)))
+
+-- and back: where every number is a travel there is no such place
+pub all-travels : (surface : List ℤ) → ((k : ℕ) → k < length surface → natAbs (getD surface k (pos 0)) ≤ most) → valuePlace surface ≡ length surface
+unfolding valuePlace
+all-travels surface each = least-none (length surface) (λ k. beyondTravel (getD surface k (pos 0))) (λ k m. within-travel _ (each k m))
+
+-- a mirrored surface has the same place
+pub value-mirrored : (surface : List ℤ) → valuePlace (map negℤ surface) ≡ valuePlace surface
+unfolding valuePlace
+value-mirrored surface =
+    ap (λ n. least n (λ k. beyondTravel (getD (map negℤ surface) k (pos 0)))) (length-map surface negℤ)
+    ∙ (λ t. least (length surface) (λ k. (ap beyondTravel (List·getD-map negℤ surface k (pos 0)) ∙ beyond-neg (getD surface k (pos 0))) t))
 
 pub balance-most : (path : List ℤ) (N : ℕ) → balancePlace path N ≤ N + 1
 unfolding balancePlace

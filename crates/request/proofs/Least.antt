@@ -17,7 +17,7 @@ least-at (suc n) bad (suc i) l before here =
     (ap suc (least-at n (λ k. bad (suc k)) i (le-of-suc-le-suc l) (λ k m. before (suc k) (suc-le-suc m)) here))
 
 -- where nothing below n is bad, it is n
-least-none : (n : ℕ) (bad : ℕ → Bool) → ((k : ℕ) → k < n → bad k ≡ false) → least n bad ≡ n
+pub least-none : (n : ℕ) (bad : ℕ → Bool) → ((k : ℕ) → k < n → bad k ≡ false) → least n bad ≡ n
 unfolding least
 least-none zero bad none = refl
 least-none (suc n) bad none =

@@ -1,16 +1,27 @@
--- A number that is not beyond its bounds is within them: what callers take from the tests. Assumes nothing.
-use mathlib.Core.Path.{_≡_, refl}
+-- A number that is not beyond its bounds is within them, and a travel within them is not beyond: what callers take from the
+-- tests. Assumes nothing.
+use mathlib.Core.Path.{_≡_, refl, ap}
 use mathlib.Core.Bool.{Bool, true, false, _||_}
 use Prim.Native.Nat.{_≤_}
 use native.Mathlib.Omega.{arith}
-use lib.IntN.{ℤ, pos, negsuc, natAbs}
+use lib.IntN.{ℤ, pos, negsuc, negℤ, natAbs}
 use lib.Dec.{ltb}
-use borrow.Author.Tests.{ltb-false}
+use borrow.Author.Tests.{le-ltb, ltb-false}
+use Rattle.whole.proofs.Bound.{natAbs-neg}
 use Rattle.units.specs.Bounds.{beyondTravel, beyondPath, pathOne, most}
 
 pub travel-within : (z : ℤ) → beyondTravel z ≡ false → natAbs z ≤ most
 unfolding beyondTravel
 travel-within z e = ltb-false most (natAbs z) e
+
+pub within-travel : (z : ℤ) → natAbs z ≤ most → beyondTravel z ≡ false
+unfolding beyondTravel
+within-travel z m = le-ltb most (natAbs z) m
+
+-- the bounds of a travel are those of its size
+pub beyond-neg : (z : ℤ) → beyondTravel (negℤ z) ≡ beyondTravel z
+unfolding beyondTravel
+beyond-neg z = ap (ltb most) (natAbs-neg z)
 
 -- a path number is a natural number, at most one
 pub record IsPath (z : ℤ) : Type 0 where

@@ -1,0 +1,21 @@
+-- Reading at "a place (a, b, c)/q, a for i, b for j, c for k, with a+b+c = q": Bernstein's triangular formula, over whole numbers.
+-- Assumes nothing.
+use mathlib.Core.List.{List}
+use Prim.Native.Nat.{ℕ, _+_}
+use lib.IntN.{ℤ, pos}
+use lib.ListN.{getD}
+use Rattle.net.specs.Net.{rowStart}
+use Rattle.net.specs.Reading.{bernsteinTriangle}
+use Rattle.patch_net.specs.Patch.{Patch, netOf, pathNumber}
+
+-- the drawn patch of degree L, its points those of an array: its value times q^L
+unfoldable pub drawn : ℕ → List ℤ → ℕ → ℕ → ℕ → ℤ
+drawn L points a b c = bernsteinTriangle L (pos a) (pos b) (pos c) (λ i j. getD points (rowStart L i + j) (pos 0))
+
+-- number t (0, 1, 2 for x, y, z) of the domain's place, times 1024·q^N
+unfoldable pub coordinate : Patch → ℕ → ℕ → ℕ → ℕ → ℤ
+coordinate p t a b c = bernsteinTriangle (p .domain) (pos a) (pos b) (pos c) (pathNumber p t)
+
+-- the surface there, times 1024^n·q^L
+unfoldable pub surfaceRead : Patch → ℕ → ℕ → ℕ → ℤ
+surfaceRead p a b c = bernsteinTriangle (p .outer) (coordinate p 0 a b c) (coordinate p 1 a b c) (coordinate p 2 a b c) (netOf p)

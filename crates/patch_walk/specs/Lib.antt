@@ -1,0 +1,2 @@
+-- The terms of a patch. Assumes nothing.
+pub mod PatchTerms

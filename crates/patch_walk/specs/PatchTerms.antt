@@ -1,0 +1,21 @@
+-- The terms of a patch: its domain points in their order, weighed by their multinomials, with the keys 10·i + j, which add without
+-- a carry as long as L is at most 9. Assumes nothing.
+use mathlib.Core.List.{List, map}
+use Prim.Native.Nat.{ℕ, _+_, _*_}
+use Rattle.net.specs.Blossom.{Argument, within}
+use Rattle.runs.specs.Terms.{Term}
+use Rattle.patch_net.specs.Patch.{Patch, Index, indices, pathNumber}
+use Rattle.patch_net.specs.Composed.{multinomial}
+
+abbrev pub keyOf : Index → ℕ
+keyOf t = 10 * t .i + t .j
+
+-- x, y, z of a domain point
+abbrev pub argumentOf : Patch → Index → Argument
+argumentOf p t = within (pathNumber p 0 (t .i) (t .j)) (pathNumber p 1 (t .i) (t .j)) (pathNumber p 2 (t .i) (t .j))
+
+unfoldable pub patchTerm : Patch → Index → Term
+patchTerm p t = record { weight = multinomial t; key = keyOf t; argument = argumentOf p t }
+
+unfoldable pub patchTerms : Patch → List Term
+patchTerms p = map (patchTerm p) (indices (p .domain))

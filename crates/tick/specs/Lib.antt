@@ -1,0 +1,5 @@
+-- Ticket 9: the reading of a curve at a tick, step by step, and what is answered. Assumes nothing.
+pub mod Reading
+pub mod Carried
+pub mod Told
+pub mod Examples
