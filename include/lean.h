@@ -66,6 +66,36 @@ enum {
  * written and 1 is returned. */
 uint32_t lean_tick(const int32_t *points, size_t points_length, uint32_t k, int64_t *words, size_t words_length);
 
+/* ---- the f64 card ----
+ *
+ * A part of a curve of degree m, form 1, whose m + 1 control values are lent, in 0.01 mm: a stay at the path number `first`
+ * where `line` is LEAN_CARD_STAY, a line from `first` to `second` where it is LEAN_CARD_LINE (a stay passes `second` over). A path
+ * number is a whole 0 to 1024, in 1/1024; minus zero counts as zero.
+ *
+ * Writes the record to the first LEAN_CARD_NUMERATORS of `numerators`, which is the numerators over 1024^m, one for a stay and
+ * m + 1 for a line, and plus zero in every other place, and three numbers to the front of `words`:
+ *
+ *   words[0]   number: 0 accepted, else a refusal
+ *   words[1]   place: the least index of a bad control value (VALUE), 0 or 1 for the first bad path number (PARAMETER), else 0
+ *   words[2]   count: how many numerators there are; 0 for a refusal, whose record is all plus zero
+ *
+ * Each numerator is exact: bit for bit the whole number that document 01's numerator over binomial(L, R) is, and never minus zero.
+ * The floating-point environment must be C's default: rounded to nearest, subnormal numbers not read as zero.
+ * The numbers in the order of judgement: 2 DEGREE (m above 4), 3 SURFACE (not m + 1 control values), 6 VALUE (a control value
+ * beyond -4096 to 4096), 7 PARAMETER (a path number that is none: a NaN, an infinity, a fraction, one beyond its bounds).
+ *
+ * Returns 0. Where there are fewer than LEAN_CARD_NUMERATORS numerators or LEAN_CARD_WORDS words, or `line` is another number,
+ * nothing at all is written and 1 is returned. Places behind those named stay as they are. */
+enum {
+    LEAN_CARD_STAY = 0,
+    LEAN_CARD_LINE = 1,
+    LEAN_CARD_NUMERATORS = 5,
+    LEAN_CARD_WORDS = 3
+};
+
+uint32_t lean_card(uint32_t m, const int32_t *surface, size_t surface_length, uint32_t line, double first, double second,
+                   double *numerators, size_t numerators_length, uint64_t *words, size_t words_length);
+
 #ifdef __cplusplus
 }
 #endif

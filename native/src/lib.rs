@@ -1,7 +1,8 @@
-//! The proved composer, door, replay and reading at a tick, as Rust calls them: none has a condition on its arguments, and slices of
-//! which one is exclusive never overlap, so all are safe. Each program links only the archive that it uses, so each is compiled
-//! where it is called.
+//! The proved composer, door, replay, reading at a tick and card, as Rust calls them: none has a condition on its arguments, and slices
+//! of which one is exclusive never overlap, so all are safe. Each program links only the archive that it uses, so each is
+//! compiled where it is called.
 
+use second::card::{Carded, Part, Record};
 use second::replay::Five;
 use second::tick::Tick;
 use second::Answer;
@@ -30,6 +31,18 @@ extern "C" {
     fn door_reply(request: *const u8, request_length: usize, reply: *mut u8, reply_length: usize) -> usize;
     fn lean_replay(trace: *const u8, trace_length: usize, words: *mut u64, words_length: usize) -> u32;
     fn lean_tick(points: *const i32, points_length: usize, k: u32, words: *mut i64, words_length: usize) -> u32;
+    fn lean_card(
+        m: u32,
+        surface: *const i32,
+        surface_length: usize,
+        line: u32,
+        first: f64,
+        second: f64,
+        numerators: *mut f64,
+        numerators_length: usize,
+        words: *mut u64,
+        words_length: usize,
+    ) -> u32;
 }
 
 /// Answers one request of document 01.
@@ -98,4 +111,36 @@ pub fn tick(points: &[i32], k: u32) -> Tick {
     assert_eq!(code, 0, "three words are enough");
     let [number, place, reading] = words;
     Tick { number: number as u32, place: place as u32, reading }
+}
+
+/// Answers a part of a curve for the drive card; what is lent is marked beforehand.
+#[inline]
+pub fn card(m: u32, surface: &[i32], part: Part) -> Carded {
+    let (line, first, second) = match part {
+        Part::Stay(at) => (0, at, f64::NAN),
+        Part::Line(from, to) => (1, from, to),
+    };
+    let mut numerators = [f64::INFINITY; 5];
+    let mut words = [u64::MAX; 3];
+    let code = unsafe {
+        lean_card(
+            m,
+            surface.as_ptr(),
+            surface.len(),
+            line,
+            first,
+            second,
+            numerators.as_mut_ptr(),
+            numerators.len(),
+            words.as_mut_ptr(),
+            words.len(),
+        )
+    };
+    assert_eq!(code, 0, "five numbers and three words are enough");
+    let [number, place, count] = words.map(|word| word as u32);
+    Carded {
+        number,
+        place,
+        record: Record { numerators, count },
+    }
 }

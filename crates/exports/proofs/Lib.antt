@@ -1,4 +1,5 @@
--- How the composer's, the replay's and the reading's own contracts give those of a call from C or Rust, and that these leave
--- no choice. Assumes nothing.
+-- How the composer's, the replay's, the reading's and the card's own contracts give those of a call from C or Rust, and that these
+-- leave no choice. Assumes nothing.
 mod Crossed
+mod Drove
 pub mod Determined

@@ -2,3 +2,4 @@
 pub mod Exported
 pub mod Replayed
 pub mod Ticked
+pub mod Driven

@@ -1,6 +1,7 @@
 // The composer for C and Rust: document 01's entry with its answer in a lent array of three words, since a struct does not
-// cross alike on every machine; and in the modules replay and ticks the replay likewise, in five, and the reading of a curve at a
-// tick, in three. Each slice crosses as a pointer and a length in elements.
+// cross alike on every machine; likewise in the modules: replay, in five; ticks, the reading of a curve at a tick, in three; drive,
+// the f64 card, its record in lent numbers. Each slice crosses as a pointer and a length in elements.
+pub mod drive;
 pub mod replay;
 pub mod ticks;
 

@@ -18,7 +18,7 @@ use request::refusal;
 use units::Age;
 
 // L + 1: how many places of each output array are written.
-fn place_count(head: Head) -> usize
+pub fn place_count(head: Head) -> usize
     requires { ⌜ notDegree head ≡ false ⌝ }
     ensures { λ r. ⌜ r ≡ longest head + 1 ⌝ }
 {

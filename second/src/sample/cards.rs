@@ -26,6 +26,19 @@ const ODD: [f64; 18] = [
     9_007_199_254_740_993.0,
 ];
 
+/// By their bits: NaNs of several payloads, quiet and signalling, and the
+/// subnormals at both ends.
+const BARE: [u64; 8] = [
+    0x7ff8_0000_0000_0001,
+    0xfff8_dead_beef_0000,
+    0x7ff0_0000_0000_0001,
+    0xffff_ffff_ffff_ffff,
+    0x0000_0000_0000_0001,
+    0x8000_0000_0000_0001,
+    0x000f_ffff_ffff_ffff,
+    0x800f_ffff_ffff_ffff,
+];
+
 /// The stream of one seed.
 pub struct Cards {
     rng: Xorshift,
@@ -127,13 +140,14 @@ impl Cards {
 
     /// A number of the list, any bits, or the neighbour of a path number.
     fn odd(&mut self) -> f64 {
-        match self.rng.below(4) {
+        match self.rng.below(5) {
             0 => f64::from_bits(self.rng.bits()),
             1 => {
                 let bits = self.whole().to_bits();
                 f64::from_bits(bits.wrapping_add(self.rng.pick(&[1, u64::MAX, 1 << 63])))
             }
             2 => self.whole() + self.rng.pick(&[0.5, 0.25, -0.125, 1025.0]),
+            3 => f64::from_bits(self.rng.pick(&BARE)),
             _ => self.rng.pick(&ODD),
         }
     }
