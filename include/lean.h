@@ -17,7 +17,7 @@ extern "C" {
 /* ---- a ride composed: a surface F, a path G, and the curve H = F(G), exactly, in whole numbers */
 
 enum {
-    LEAN_WORDS = 3,      /* the answer's words: number, place, count */
+    LEAN_WORDS = 4,      /* the answer's words: number, place, count, entries */
     LEAN_MOST_PLACES = 25 /* the places of the longest answer: r = 4, N = 6, L + 1 = 25 */
 };
 
@@ -35,10 +35,11 @@ enum {
  * high     numerator R at R = 0 to L by two words, worth high * 2^64 + low: over binomial(L, R) * 1024^r it is the exact
  * low      control point. high is rounded down, so that -1 is high -1, low 2^64 - 1
  * points   the rounded control points in 0.01 mm, a half going away from zero
- * words    number, place and count of the answer: 0, 0, L + 1 where it is accepted; else the refusal's number, its place, 0
+ * words    number, place and count of the answer: 0, 0, L + 1 where it is accepted; else the refusal's number, its place, 0;
+ *          and the net entries that were formed: forms 1 and 3 accepted, at most 490 and 700; 0 for form 2 and for a refusal
  *
  * Accepted, the first L + 1 places of high, low and points are written, and every later place stays. Refused, none of the
- * three changes. Returns 0; or 1 where words has fewer than three places, and then nothing at all is written. */
+ * three changes. Returns 0; or 1 where words has fewer than four places, and then nothing at all is written. */
 uint32_t lean_compose(uint32_t form, uint32_t first, uint32_t second, uint32_t N, uint16_t age,
                       const int32_t *surface, size_t surface_length, const int32_t *path, size_t path_length,
                       int64_t *high, size_t high_length, uint64_t *low, size_t low_length,

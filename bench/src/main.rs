@@ -91,6 +91,7 @@ fn composed(ride: &Ride, high: &mut [i64], low: &mut [u64], points: &mut [i32]) 
         low,
         points,
     )
+    .0
 }
 
 fn main() {

@@ -45,7 +45,7 @@ extern "C" {
     ) -> u32;
 }
 
-/// Answers one request of document 01.
+/// Answers one request of document 01, and tells how many net entries were formed for it.
 #[inline]
 #[allow(clippy::too_many_arguments)]
 pub fn compose(
@@ -59,8 +59,8 @@ pub fn compose(
     high: &mut [i64],
     low: &mut [u64],
     points: &mut [i32],
-) -> Answer {
-    let mut words = [0; 3];
+) -> (Answer, u64) {
+    let mut words = [0; 4];
     let code = unsafe {
         lean_compose(
             form,
@@ -82,9 +82,9 @@ pub fn compose(
             words.len(),
         )
     };
-    assert_eq!(code, 0, "three words are enough");
-    let [number, place, count] = words.map(|word| word as u32);
-    Answer { number, place, count }
+    assert_eq!(code, 0, "four words are enough");
+    let [number, place, count] = [words[0], words[1], words[2]].map(|word| word as u32);
+    (Answer { number, place, count }, words[3])
 }
 
 /// Judges and composes one request: `include/lean_door.h` says what the bytes are.

@@ -3,7 +3,8 @@
 
 use crate::card::{card, Carded, Part};
 use crate::convert::{convert, Converted};
-use crate::edition::Edition;
+use crate::edition::{Edition, LONG};
+use crate::entries;
 use crate::long;
 use crate::patch::patch;
 use crate::salvage::{salvage, Salvaged};
@@ -57,15 +58,16 @@ pub fn shown(what: &str, compared: Result<Tally, String>) -> bool {
     compared.is_ok()
 }
 
-/// Long rides: the answer and all three arrays, which are marked beforehand.
+/// Long rides: the answer, its entries and all three arrays, which are marked
+/// beforehand.
 pub fn longs(
     seed: u64,
     count: u64,
-    mut other: impl FnMut(&crate::Request, &mut [i64], &mut [u64], &mut [i32]) -> Answer,
+    mut other: impl FnMut(&crate::Request, &mut [i64], &mut [u64], &mut [i32]) -> (Answer, u64),
 ) -> Result<Tally, String> {
     let mut draws = Longs::new(seed);
     let this = |request: &crate::Request, high: &mut [i64], low: &mut [u64], points: &mut [i32]| {
-        long::compose(
+        let answer = long::compose(
             request.form,
             request.first,
             request.second,
@@ -76,7 +78,8 @@ pub fn longs(
             high,
             low,
             points,
-        )
+        );
+        (answer, entries::told(request, &LONG, &answer))
     };
     compared(
         count,

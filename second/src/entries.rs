@@ -1,7 +1,17 @@
 //! Ticket 7: how many net entries are formed when each non-decreasing run of
 //! path point numbers is extended one argument at a time.
 
+use crate::edition::Edition;
 use crate::shape::{Form, Shape};
+use crate::{Answer, Request};
+
+/// What a request is told besides its answer: 0 where it is refused.
+pub fn told(request: &Request, edition: &Edition, answer: &Answer) -> u64 {
+    match request.shape(edition) {
+        Ok(shape) if answer.number == 0 => of(&shape),
+        _ => 0,
+    }
+}
 
 /// The count that an accepted request reports: the entries of the tree of its
 /// runs for forms 1 and 3, 0 for form 2.

@@ -6,7 +6,8 @@
 //! two rooms, and as the last word, if wanted, the age as a marked word,
 //! `age=251`; an age that the line does not name is 0.
 
-use crate::{compose, Answer};
+use crate::edition::TODAY;
+use crate::{compose, entries, Answer, Request};
 use std::fmt::Write;
 
 /// The longest line that is read, in bytes and without its newline.
@@ -44,10 +45,11 @@ pub struct Asked {
     pub rooms: Option<(usize, usize)>,
 }
 
-/// A request's answer with both arrays.
+/// A request's answer with its entries and both arrays.
 #[derive(Clone, Debug, PartialEq, Eq)]
 pub struct Reply {
     pub answer: Answer,
+    pub entries: u64,
     pub exact: Vec<i128>,
     pub points: Vec<i32>,
 }
@@ -206,6 +208,19 @@ impl Asked {
         line
     }
 
+    /// The request, without its rooms.
+    pub fn request(&self) -> Request<'_> {
+        Request {
+            form: self.form,
+            first: self.first,
+            second: self.second,
+            n: self.n,
+            age: self.age,
+            surface: &self.surface,
+            path: &self.path,
+        }
+    }
+
     /// The mirrored request: all control values negated, all else the same.
     /// The least number has no mirror in 32 bits and becomes the greatest;
     /// both are beyond the bounds.
@@ -241,6 +256,7 @@ impl Asked {
         }
         Reply {
             answer,
+            entries: entries::told(&self.request(), &TODAY, &answer),
             exact,
             points,
         }
@@ -248,14 +264,14 @@ impl Asked {
 }
 
 impl Reply {
-    /// The answer line: `number place count | numerators | points`.
+    /// The answer line: `number place count entries | numerators | points`.
     pub fn line(&self) -> String {
         let Answer {
             number,
             place,
             count,
         } = self.answer;
-        let mut line = format!("{number} {place} {count} |");
+        let mut line = format!("{number} {place} {count} {} |", self.entries);
         append(&mut line, &self.exact);
         line.push_str(" |");
         append(&mut line, &self.points);

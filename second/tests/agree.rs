@@ -11,7 +11,7 @@ use second::salvage::{salvage, Salvaged};
 use second::sheet::{sheet, Feed, Sheet};
 use second::tick::tick;
 use second::words::{words, worth};
-use second::{long, Answer, Request};
+use second::{entries, long, Answer, Request};
 
 /// All went well, and at least this many kinds were drawn.
 fn good(compared: Result<Tally, String>, kinds: usize) {
@@ -28,8 +28,13 @@ fn bad(compared: Result<Tally, String>) {
 }
 
 /// This program's long rides.
-fn compose(request: &Request, high: &mut [i64], low: &mut [u64], points: &mut [i32]) -> Answer {
-    long::compose(
+fn compose(
+    request: &Request,
+    high: &mut [i64],
+    low: &mut [u64],
+    points: &mut [i32],
+) -> (Answer, u64) {
+    let answer = long::compose(
         request.form,
         request.first,
         request.second,
@@ -40,7 +45,8 @@ fn compose(request: &Request, high: &mut [i64], low: &mut [u64], points: &mut [i
         high,
         low,
         points,
-    )
+    );
+    (answer, entries::told(request, &LONG, &answer))
 }
 
 #[test]
@@ -49,19 +55,30 @@ fn long_rides() {
     // The low array's room not asked.
     bad(longs(1, 4000, |request, high, low, points| {
         let mut own = vec![0; 64];
-        let answer = compose(request, high, &mut own, points);
+        let (answer, entries) = compose(request, high, &mut own, points);
         let count = low.len().min(answer.count as usize);
         low[..count].copy_from_slice(&own[..count]);
-        answer
+        (answer, entries)
     }));
     // The high word rounded toward zero.
     bad(longs(1, 4000, |request, high, low, points| {
-        let answer = compose(request, high, low, points);
+        let (answer, entries) = compose(request, high, low, points);
         for place in 0..answer.count as usize {
             let numerator = worth(high[place], low[place]);
             high[place] = (numerator / (1 << 64)) as i64;
         }
-        answer
+        (answer, entries)
+    }));
+    // A refusal with a count.
+    bad(longs(1, 4000, |request, high, low, points| {
+        let (answer, entries) = compose(request, high, low, points);
+        (answer, if answer.number == 6 { 31 } else { entries })
+    }));
+    // Form 2 counted.
+    bad(longs(1, 4000, |request, high, low, points| {
+        let (answer, entries) = compose(request, high, low, points);
+        let counted = answer.number == 0 && request.form == 2;
+        (answer, if counted { 12 } else { entries })
     }));
     assert_eq!(words(-1), (-1, u64::MAX));
 }

@@ -12,17 +12,17 @@ fn told(line: &str) -> String {
 #[test]
 fn answer_lines() {
     let p1 = "1 1 0 1 2 0 100 2 0 1024";
-    assert_eq!(told(p1), "0 0 2 | 0 102400 | 0 100");
-    assert_eq!(told("4 9 0 1 0 0"), "1 0 0 | |");
+    assert_eq!(told(p1), "0 0 2 2 | 0 102400 | 0 100");
+    assert_eq!(told("4 9 0 1 0 0"), "1 0 0 0 | |");
     let rooms = |rooms: &str| told(&format!("{p1} {rooms}"));
-    assert_eq!(rooms("2 2"), "0 0 2 | 0 102400 | 0 100");
-    assert_eq!(rooms("4 3"), "0 0 2 | 0 102400 -7 -7 | 0 100 -9");
-    assert_eq!(rooms("1 3"), "5 0 0 | -7 | -9 -9 -9");
-    assert_eq!(rooms("0 2"), "5 0 0 | | -9 -9");
-    assert_eq!(rooms("2 0"), "5 0 0 | -7 -7 |");
-    assert_eq!(rooms("0 0"), "5 0 0 | |");
-    assert_eq!(told("1 1 0 1 2 0 4097 2 0 1025 1 2"), "5 0 0 | -7 | -9 -9");
-    assert_eq!(told("1 1 0 1 2 0 4097 2 0 1025"), "6 1 0 | |");
+    assert_eq!(rooms("2 2"), "0 0 2 2 | 0 102400 | 0 100");
+    assert_eq!(rooms("4 3"), "0 0 2 2 | 0 102400 -7 -7 | 0 100 -9");
+    assert_eq!(rooms("1 3"), "5 0 0 0 | -7 | -9 -9 -9");
+    assert_eq!(rooms("0 2"), "5 0 0 0 | | -9 -9");
+    assert_eq!(rooms("2 0"), "5 0 0 0 | -7 -7 |");
+    assert_eq!(rooms("0 0"), "5 0 0 0 | |");
+    assert_eq!(told("1 1 0 1 2 0 4097 2 0 1025 1 2"), "5 0 0 0 | -7 | -9 -9");
+    assert_eq!(told("1 1 0 1 2 0 4097 2 0 1025"), "6 1 0 0 | |");
 }
 
 /// After the path numbers come, if wanted, two rooms and then a marked age.
@@ -30,7 +30,7 @@ fn answer_lines() {
 fn ages() {
     let p1 = "1 1 0 1 2 0 100 2 0 1024";
     let with = |words: &str| told(&format!("{p1} {words}"));
-    let good = "0 0 2 | 0 102400 | 0 100";
+    let good = "0 0 2 2 | 0 102400 | 0 100";
     for words in [
         "",
         "age=0",
@@ -45,12 +45,12 @@ fn ages() {
     ] {
         assert_eq!(with(words), good);
     }
-    assert_eq!(with("age=251"), "10 0 0 | |");
-    assert_eq!(with("age=65535"), "10 0 0 | |");
-    assert_eq!(with("3 2 age=250"), "0 0 2 | 0 102400 -7 | 0 100");
-    assert_eq!(with("3 2 age=251"), "10 0 0 | -7 -7 -7 | -9 -9");
-    assert_eq!(with("1 2 age=251"), "10 0 0 | -7 | -9 -9");
-    assert_eq!(with("1 2 age=250"), "5 0 0 | -7 | -9 -9");
+    assert_eq!(with("age=251"), "10 0 0 0 | |");
+    assert_eq!(with("age=65535"), "10 0 0 0 | |");
+    assert_eq!(with("3 2 age=250"), "0 0 2 2 | 0 102400 -7 | 0 100");
+    assert_eq!(with("3 2 age=251"), "10 0 0 0 | -7 -7 -7 | -9 -9");
+    assert_eq!(with("1 2 age=251"), "10 0 0 0 | -7 | -9 -9");
+    assert_eq!(with("1 2 age=250"), "5 0 0 0 | -7 | -9 -9");
     for words in [
         "0",
         "251",

@@ -11,17 +11,17 @@ unfoldable pub spaced : List ℤ → List ℕ
 spaced [] = []
 spaced (z ∷ zs) = 32 ∷ decimal z ++ spaced zs
 
--- `number place count`
-unfoldable pub verdict : ℕ → ℕ → ℕ → List ℕ
-verdict number place count = digits number ++ 32 ∷ digits place ++ 32 ∷ digits count
+-- `number place count entries`
+unfoldable pub verdict : ℕ → ℕ → ℕ → ℕ → List ℕ
+verdict number place count entries = digits number ++ 32 ∷ digits place ++ 32 ∷ digits count ++ 32 ∷ digits entries
 
 -- ` | numerators | points`
 unfoldable pub lists : List ℤ → List ℤ → List ℕ
 lists exact points = 32 ∷ 124 ∷ spaced exact ++ 32 ∷ 124 ∷ spaced points
 
 -- both and a newline
-unfoldable pub answerLine : ℕ → ℕ → ℕ → List ℤ → List ℤ → List ℕ
-answerLine number place count exact points = verdict number place count ++ lists exact points ++ 10 ∷ []
+unfoldable pub answerLine : ℕ → ℕ → ℕ → ℕ → List ℤ → List ℤ → List ℕ
+answerLine number place count entries exact points = verdict number place count entries ++ lists exact points ++ 10 ∷ []
 
 -- lists of at most 64 places each, as many low words as high ones
 pub record Listed (high : List ℤ) (low : List ℕ) (points : List ℤ) : Type 0 where

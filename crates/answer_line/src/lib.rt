@@ -1,4 +1,4 @@
-// The answer line of a request, written into a lent buffer: number, place and count, then both lists.
+// The answer line of a request, written into a lent buffer: number, place, count and entries, then both lists.
 ghost use mathlib.Core.List.{[], _∷_};
 ghost use mathlib.Core.Path.{_≡_};
 ghost use Prim.Native.Nat.{_+_, _*_, _≤_, _<_};
@@ -72,14 +72,22 @@ fn write_points(list: &[i32], out: &mut [u8], at: usize) -> usize
     end
 }
 
-// `number place count`.
-fn write_verdict(number: u32, place: usize, count: usize, out: &mut [u8], at: usize) -> usize
-    requires { ⌜ at + 62 ≤ length (now out) ⌝ }
-    ensures { λ r. ⌜ Written 62 (now (out .entry)) at (verdict number place count) (now (out .exit)) r ⌝ }
+// `number place count entries`.
+fn write_verdict(
+    number: u32,
+    place: usize,
+    count: usize,
+    entries: u64,
+    out: &mut [u8],
+    at: usize,
+) -> usize
+    requires { ⌜ at + 83 ≤ length (now out) ⌝ }
+    ensures { λ r. ⌜ Written 83 (now (out .entry)) at (verdict number place count entries) (now (out .exit)) r ⌝ }
 {
     let a = write_natural(number as u64, out, at);
     let b = write_next_natural(place as u64, out, a);
-    write_next_natural(count as u64, out, b)
+    let c = write_next_natural(count as u64, out, b);
+    write_next_natural(entries, out, c)
 }
 
 // A bar before a list.
@@ -106,6 +114,7 @@ pub fn write_answer(
     number: u32,
     place: usize,
     count: usize,
+    entries: u64,
     high: &[i64],
     low: &[u64],
     points: &[i32],
@@ -113,9 +122,9 @@ pub fn write_answer(
     at: usize,
 ) -> usize
     requires { ⌜ Listed (now high) (now low) (now points) × (at + 4096 ≤ length (now out)) ⌝ }
-    ensures { λ r. ⌜ Written 4096 (now (out .entry)) at (answerLine number place count (numbersOf (now (high .entry)) (now (low .entry))) (now (points .entry))) (now (out .exit)) r ⌝ }
+    ensures { λ r. ⌜ Written 4096 (now (out .entry)) at (answerLine number place count entries (numbersOf (now (high .entry)) (now (low .entry))) (now (points .entry))) (now (out .exit)) r ⌝ }
 {
-    let a = write_verdict(number, place, count, out, at);
+    let a = write_verdict(number, place, count, entries, out, at);
     let b = write_lists(high, low, points, out, a);
     out[b] = b'\n';
     b + 1

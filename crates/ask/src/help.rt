@@ -78,7 +78,7 @@ fn say_answer() {
     io::write_all(STDOUT_FILENO, b"The answer line is\n");
     io::write_all(
         STDOUT_FILENO,
-        b"  number place count | numerators | points\n",
+        b"  number place count entries | numerators | points\n",
     );
     io::write_all(
         STDOUT_FILENO,
@@ -87,6 +87,10 @@ fn say_answer() {
     io::write_all(
         STDOUT_FILENO,
         b"7 PARAMETER, 8 BALANCE, 10 STALE: an age above 250, tested right after DEGREE.\n",
+    );
+    io::write_all(
+        STDOUT_FILENO,
+        b"entries: how many net entries were formed; 0 for form 2 and for a refusal.\n",
     );
     io::write_all(
         STDOUT_FILENO,
@@ -107,7 +111,7 @@ fn say_answer() {
     io::write_all(STDOUT_FILENO, b"\n");
     io::write_all(
         STDOUT_FILENO,
-        b"  1 1 0 1 2 0 100 2 0 1024   is answered by   0 0 2 | 0 102400 | 0 100\n",
+        b"  1 1 0 1 2 0 100 2 0 1024   is answered by   0 0 2 2 | 0 102400 | 0 100\n",
     );
 }
 

@@ -1,13 +1,18 @@
--- What the three output arrays hold afterwards, for every input. Assumes nothing.
+-- What the three output arrays hold afterwards, and how many net entries are reported, for every input. Assumes nothing.
+use mathlib.Core.Bool.{cond}
 use mathlib.Core.List.{List, [], _∷_, _++_}
-use Prim.Native.Nat.{ℕ, zero, suc}
+use Prim.Native.Nat.{ℕ, zero, suc, _+_}
+use lib.Dec.{eqb}
 use lib.IntN.{ℤ}
 use lib.ListN.{length, drop}
 use Rattle.two_words.specs.Words.{highWord, lowWord}
+use Rattle.request.specs.declared.Head.{Head}
 use Rattle.request.specs.declared.Rooms.{Rooms}
+use Rattle.request.specs.Head.{byForm, degree}
 use Rattle.request.specs.Request.{Request}
 use Rattle.request.specs.Refusal.{answer}
 use Rattle.net.specs.Composed.{numerator, point}
+use Rattle.runs.specs.Tree.{Tree, tree, entries}
 
 -- f 0, f 1, … below n
 unfoldable pub listBelow {ℓ} : {A : Type ℓ} → ℕ → (ℕ → A) → List A
@@ -41,3 +46,14 @@ lowAfter rq age lent = afterwards (answer rq age (roomsOf lent) .count) (λ R. l
 
 unfoldable pub pointsAfter : Request → ℕ → Arrays → List ℤ
 pointsAfter rq age lent = afterwards (answer rq age (roomsOf lent) .count) (point rq) (lent .points)
+
+-- "For forms 1 and 3 the answer also carries how many net entries were formed" (02, ticket 7): those of the tree of runs of r of
+-- the N + 1 path points; "A refused request reports 0, and so does form 2."
+unfoldable pub rideTree : Head → Tree
+rideTree h = tree (degree h) 0 (h .N + 1)
+
+unfoldable pub entriesOf : Head → ℕ
+entriesOf h = byForm h (entries 1 (rideTree h)) 0 (entries 2 (rideTree h))
+
+unfoldable pub entriesAfter : Request → ℕ → Arrays → ℕ
+entriesAfter rq age lent = cond (eqb (answer rq age (roomsOf lent) .number) 0) (entriesOf (rq .head)) 0

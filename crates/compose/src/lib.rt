@@ -8,7 +8,8 @@ ghost use Rattle.whole.specs.Round.{nearest};
 ghost use Rattle.two_words.specs.Words.{twoWords};
 ghost use Rattle.pascal.specs.Entry.{Pascal};
 ghost use Rattle.request.specs.Request.{requestOf};
-ghost use Rattle.compose.specs.Afterwards.{arrays};
+ghost use Rattle.sums.specs.Contract.{Formed};
+ghost use Rattle.compose.specs.Afterwards.{arrays, entriesOf};
 ghost use Rattle.compose.specs.Contract.{Composed, PointAt, PointsAt, Enough, Put, Wrote};
 use request::Answer;
 use request::Head;
@@ -90,6 +91,23 @@ fn write_all(
     }
 }
 
+// Of the entries that were formed, those that are reported: form 2 reports none.
+fn reported(head: Head, formed: u64) -> u64
+    requires { ⌜ Formed head formed ⌝ }
+    ensures { λ n. ⌜ n ≡ entriesOf head ⌝ }
+{
+    if head.form == 2 {
+        return 0;
+    }
+    formed
+}
+
+// Document 01's answer, and how many net entries were formed for it (02, ticket 7): 0 for form 2 and for a refusal.
+pub struct Composition {
+    pub answer: Answer,
+    pub entries: u64,
+}
+
 // Composes a surface and a path, on a tilt sample of the given age. The answer is a number, a place and a count: 0, 0, L+1
 // where the request is accepted, and then the first L+1 places of the three arrays are written; else the refusal's number and
 // place and count 0, and all three are as they were.
@@ -101,8 +119,8 @@ pub fn compose(
     high: &mut [i64],
     low: &mut [u64],
     points: &mut [i32],
-) -> Answer
-    ensures { λ a. ⌜ Composed (requestOf head (now (surface .entry)) (now (path .entry))) (age .0) (arrays (now (high .entry)) (now (low .entry)) (now (points .entry))) a (arrays (now (high .exit)) (now (low .exit)) (now (points .exit))) ⌝ }
+) -> Composition
+    ensures { λ c. ⌜ Composed (requestOf head (now (surface .entry)) (now (path .entry))) (age .0) (arrays (now (high .entry)) (now (low .entry)) (now (points .entry))) c (arrays (now (high .exit)) (now (low .exit)) (now (points .exit))) ⌝ }
 {
     let rooms = Rooms {
         high: high.len(),
@@ -111,12 +129,13 @@ pub fn compose(
     };
     let answer = judge::judge(head, age, surface, path, rooms);
     if answer.number != 0 {
-        return answer;
+        return Composition { answer, entries: 0 };
     }
     let table = pascal::table();
     let mut sums = [0i64; 50];
-    sums::numerators(&table, head, surface, path, &mut sums);
+    let formed = sums::numerators(&table, head, surface, path, &mut sums);
+    let entries = reported(head, formed);
     let r = request::degree(head) as usize;
     write_all(&table, &sums, answer.count, r, high, low, points);
-    answer
+    Composition { answer, entries }
 }

@@ -32,20 +32,21 @@ use Rattle.compose.proofs.Written.{afterwards-none, afterwards-at, afterwards-p
 use Rattle.demands.specs.Rides.{curve}
 use Rattle.compose.proofs.Demand3.{demand3 as at-every-moment}
 
--- what the composer leaves: its answer and the three arrays
+-- what the composer leaves: its answer, the entries that it reports and the three arrays
 pub record Result : Type 0 where
   pub answer : Answer
+  pub entries : ℕ
   pub left : Arrays
 
 -- the results that the contract allows, for a request, the age of the tilt sample and the arrays as they were lent
 abbrev pub Allowed : Request → ℕ → Arrays → Result → Type 0
-Allowed rq age lent r = Composed rq age lent (r .answer) (r .left)
+Allowed rq age lent r = Composed rq age lent (record { answer = r .answer; entries = r .entries }) (r .left)
 
 -- Determinacy. Any two results that the contract allows are equal (`any-two` of Rattle.whole.proofs.Determined).
 pub determined : (rq : Request) (age : ℕ) (lent : Arrays) → Determined (Allowed rq age lent)
 determined rq age lent = record {
-  value = record { answer = _; left = arrays _ _ _ };
-  only = λ r c t. record { answer = c .answered t; left = arrays (c .high-is t) (c .low-is t) (c .points-is t) };
+  value = record { answer = _; entries = _; left = arrays _ _ _ };
+  only = λ r c t. record { answer = c .answered t; entries = c .counted t; left = arrays (c .high-is t) (c .low-is t) (c .points-is t) };
 }
 
 -- The other public functions below the composer answer one value, r ≡ that of a definition: such a contract leaves no choice.

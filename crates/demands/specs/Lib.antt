@@ -4,3 +4,4 @@ pub mod Rides
 pub mod Door
 pub mod Asked
 pub mod Mirrored
+pub mod Combinations

@@ -10,6 +10,7 @@ use Rattle.request.specs.declared.Answer.{Answer}
 use Rattle.request.specs.declared.Head.{Head}
 use Rattle.request.specs.Head.{surfaceCount, pathCount}
 use Rattle.request.specs.Request.{Request}
+use Rattle.compose.specs.declared.Composition.{Composition}
 use Rattle.compose.specs.Afterwards.{listBelow, afterwards, Arrays, roomsOf, pointsAfter}
 use Rattle.compose.specs.Contract.{Composed}
 use Rattle.compose.proofs.Written.{below-length, afterwards-none}
@@ -37,11 +38,11 @@ request-read request from age head s p surface path surface′ path′ r es ep f
     rw (f, g, first-places s _ surface, first-places p _ path, es, ep, r .from-is, r .head-is)
 
 -- what it answers and leaves in the points is what the door answers and sends
-pub composed-given : (request : List ℕ) (rq : Request) (age : ℕ) (lent left : Arrays) (a : Answer)
+pub composed-given : (request : List ℕ) (rq : Request) (age : ℕ) (lent left : Arrays) (c : Composition)
     → rq ≡ requestIn request → age ≡ ageIn request → roomsOf lent ≡ mostRooms
-    → Composed rq age lent a left → Given request (composed request) (lent .points) a (left .points)
+    → Composed rq age lent c left → Given request (composed request) (lent .points) (c .answer) (left .points)
 unfolding pointsAfter
-composed-given request rq age lent left a e o l k = record {
+composed-given request rq age lent left c e o l k = record {
   answered = rw (← e, ← o) (rw l at (k .answered));
   points-is = rw (← e, ← o) (rw l at (k .points-is));
 }

@@ -50,7 +50,7 @@ fn compose_in(request: &[u8], from: usize, head: Head, age: Age, points: &mut [i
     let mut low = [0u64; request::MOST_POINTS];
     read_numbers(request, from, surface_count, &mut surface);
     read_numbers(request, from + 2 * surface_count, path_count, &mut path);
-    compose::compose(
+    let composed = compose::compose(
         head,
         age,
         &surface[..surface_count],
@@ -58,7 +58,8 @@ fn compose_in(request: &[u8], from: usize, head: Head, age: Age, points: &mut [i
         &mut high,
         &mut low,
         points,
-    )
+    );
+    composed.answer
 }
 
 // The door's own table, and then the composer.

@@ -6,37 +6,37 @@ use Prim.Native.Nat.{ℕ, _≤_, _<_}
 use lib.IntN.{ℤ, pos}
 use lib.ListN.{length, set}
 use borrow.Author.Tests.{lt-ltb, le-ltb}
-use Rattle.request.specs.declared.Answer.{Answer}
 use Rattle.request.specs.Request.{Request}
+use Rattle.compose.specs.declared.Composition.{Composition}
 use Rattle.compose.specs.Afterwards.{Arrays}
 use Rattle.compose.specs.Contract.{Composed}
 use Rattle.fives.specs.declared.Five.{Five}
 use Rattle.tally.specs.Read.{replayed}
 use Rattle.tick.specs.declared.Tick.{Tick}
 use Rattle.tick.specs.Told.{told}
-use Rattle.exports.specs.Exported.{withAnswer, Exported}
+use Rattle.exports.specs.Exported.{withAnswer, withEntries, Exported}
 use Rattle.exports.specs.Replayed.{withFive, Replayed}
 use Rattle.exports.specs.Ticked.{withTick, Ticked}
 
 module _ (rq : Request) (age : ℕ) (lent : Arrays) (words : List ℕ) where
-  pub untouched : length words < 3 → Exported rq age lent words 1 lent words
+  pub untouched : length words < 4 → Exported rq age lent words 1 lent words
   untouched short =
       let t = lt-ltb _ _ short in
       record { code-is = rw t; high-is = rw t; low-is = rw t; points-is = rw t; words-is = rw t }
 
-  pub answered : (a : Answer) (left : Arrays) (number : ℕ) (one two three : List ℕ) → 3 ≤ length words
-      → Composed rq age lent a left → number ≡ a .number
-      → one ≡ set words 0 number → two ≡ set one 1 (a .place) → three ≡ set two 2 (a .count)
-      → Exported rq age lent words 0 left three
-  unfolding withAnswer
-  answered a left number one two three enough composed n first second third =
+  pub answered : (c : Composition) (left : Arrays) (number : ℕ) (one two three four : List ℕ) → 4 ≤ length words
+      → Composed rq age lent c left → number ≡ c .answer .number
+      → one ≡ set words 0 number → two ≡ set one 1 (c .answer .place) → three ≡ set two 2 (c .answer .count) → four ≡ set three 3 (c .entries)
+      → Exported rq age lent words 0 left four
+  unfolding withAnswer withEntries
+  answered c left number one two three four enough composed n first second third fourth =
       let t = le-ltb _ _ enough in
       record {
         code-is = rw t;
         high-is = rw t (composed .high-is);
         low-is = rw t (composed .low-is);
         points-is = rw t (composed .points-is);
-        words-is = rw (t, ← composed .answered, third, second, first, n);
+        words-is = rw (t, ← composed .answered, ← composed .counted, fourth, third, second, first, n);
       }
 
 module _ (bytes words : List ℕ) where

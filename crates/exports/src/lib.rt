@@ -1,4 +1,4 @@
-// The composer for C and Rust: document 01's entry with its answer in a lent array of three words, since a struct does not
+// The composer for C and Rust: document 01's entry with its answer in a lent array of four words, since a struct does not
 // cross alike on every machine; likewise in the modules: replay, in five; ticks, the reading of a curve at a tick, in three; drive,
 // the f64 card, its record in lent numbers. Each slice crosses as a pointer and a length in elements.
 pub mod drive;
@@ -27,8 +27,8 @@ fn put(words: &mut [u64], k: usize, x: u64)
 }
 
 // Composes a surface and a path, on a tilt sample of the given age in milliseconds, and writes the number, the place and
-// the count of the answer to the first three of `words`: 0. Where `words` has fewer than three places nothing at all is
-// written: 1.
+// the count of the answer and the entries that were formed to the first four of `words`: 0. Where `words` has fewer than four
+// places nothing at all is written: 1.
 #[no_mangle]
 pub extern "C" fn lean_compose(
     form: u32,
@@ -45,10 +45,10 @@ pub extern "C" fn lean_compose(
 ) -> u32
     ensures { λ code. ⌜ Exported (requestOf form first second N (now (surface .entry)) (now (path .entry))) age (arrays (now (high .entry)) (now (low .entry)) (now (points .entry))) (now (words .entry)) code (arrays (now (high .exit)) (now (low .exit)) (now (points .exit))) (now (words .exit)) ⌝ }
 {
-    if words.len() < 3 {
+    if words.len() < 4 {
         return 1;
     }
-    let answer = compose::compose(
+    let composed = compose::compose(
         Head {
             form,
             first,
@@ -62,8 +62,10 @@ pub extern "C" fn lean_compose(
         low,
         points,
     );
+    let answer = composed.answer;
     put(words, 0, wide(answer.number));
     put(words, 1, answer.place as u64);
     put(words, 2, answer.count as u64);
+    put(words, 3, composed.entries);
     0
 }

@@ -7,7 +7,7 @@ use lib.ListN.{length, take, replicate}
 use Rattle.two_words.specs.Words.{numbersOf}
 use Rattle.request.specs.Refusal.{answer}
 use Rattle.request.specs.Request.{Request, requestOf}
-use Rattle.compose.specs.Afterwards.{Arrays, arrays, roomsOf, highAfter, lowAfter, pointsAfter}
+use Rattle.compose.specs.Afterwards.{Arrays, arrays, roomsOf, highAfter, lowAfter, pointsAfter, entriesAfter}
 use Rattle.text.specs.declared.Reading.{Reading}
 use Rattle.answer_line.specs.Answer.{answerLine}
 
@@ -21,7 +21,8 @@ replyOf rq age given lent =
     let a = answer rq age (roomsOf lent) in
     let c = shown given (a .count) (length (lent .high)) in
     let d = shown given (a .count) (length (lent .points)) in
-    answerLine (a .number) (a .place) (a .count) (numbersOf (take c (highAfter rq age lent)) (take c (lowAfter rq age lent)))
+    answerLine (a .number) (a .place) (a .count) (entriesAfter rq age lent)
+    (numbersOf (take c (highAfter rq age lent)) (take c (lowAfter rq age lent)))
     (take d (pointsAfter rq age lent))
 
 -- what the places hold beforehand: −7, by its words, and −9; the first room is that of both words' arrays

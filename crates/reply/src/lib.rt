@@ -44,13 +44,15 @@ fn reply_in(
     ensures { λ r. ⌜ Written 4096 (now (out .entry)) 0 (replyOf (requestOf head (now (surface .entry)) (now (path .entry))) (age .0) given
         (arrays (now (high .entry)) (now (low .entry)) (now (points .entry)))) (now (out .exit)) r ⌝ }
 {
-    let answer = compose::compose(head, age, surface, path, high, low, points);
+    let composed = compose::compose(head, age, surface, path, high, low, points);
+    let answer = composed.answer;
     let c = shown(given, answer.count, high.len());
     let d = shown(given, answer.count, points.len());
     write_answer(
         answer.number,
         answer.place,
         answer.count,
+        composed.entries,
         &high[..c],
         &low[..c],
         &points[..d],

@@ -1,5 +1,5 @@
 //! `longs SEED COUNT`: seeded requests with N up to 6 through the proved composer and through the second program, compared over
-//! the answer and the three arrays, which are marked beforehand. Leaves with 1 on the first difference.
+//! the answer, its entries and the three arrays, which are marked beforehand. Leaves with 1 on the first difference.
 
 use std::process::ExitCode;
 

@@ -13,28 +13,20 @@ pub struct Rooms {
     pub rooms: [usize; 3],
 }
 
-/// An answer and the three arrays after it.
-pub type Answered = (Answer, Vec<i64>, Vec<u64>, Vec<i32>);
+/// An answer with its entries, and the three arrays after it.
+pub type Answered = ((Answer, u64), Vec<i64>, Vec<u64>, Vec<i32>);
 
 impl Rooms {
     /// Has this answered, on arrays that are marked beforehand.
     pub fn answered(
         &self,
-        mut compose: impl FnMut(&Request, &mut [i64], &mut [u64], &mut [i32]) -> Answer,
+        mut compose: impl FnMut(&Request, &mut [i64], &mut [u64], &mut [i32]) -> (Answer, u64),
     ) -> Answered {
         let [high, low, points] = self.rooms;
         let mut high = vec![-7; high];
         let mut low = vec![7 << 60; low];
         let mut points = vec![-9; points];
-        let request = Request {
-            form: self.asked.form,
-            first: self.asked.first,
-            second: self.asked.second,
-            n: self.asked.n,
-            age: self.asked.age,
-            surface: &self.asked.surface,
-            path: &self.asked.path,
-        };
+        let request = self.asked.request();
         let answer = compose(&request, &mut high, &mut low, &mut points);
         (answer, high, low, points)
     }

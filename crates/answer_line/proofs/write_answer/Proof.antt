@@ -26,9 +26,9 @@ same-length c = simp length-set (omega arith)
 returns : tie.Need-returns
 unfolding answerLine
 returns c =
-    written-within 4063 _ _ _ _ _
-    (written-then 4062 _ _ _ _ _ 1 _ _ _
-    (written-then 62 _ _ _ _ _ 4000 _ _ _ (c .before .before .before .before .before .before .write-verdict .ensures)
+    written-within 4084 _ _ _ _ _
+    (written-then 4083 _ _ _ _ _ 1 _ _ _
+    (written-then 83 _ _ _ _ _ 4000 _ _ _ (c .before .before .before .before .before .before .write-verdict .ensures)
     (c .before .before .write-lists .ensures))
     (written-first 0 _ _ [] _ _ _ (written-none 0 _ _ [] [] 0))) 4096 (omega arith)
 

@@ -1,4 +1,4 @@
--- `answer_line::write_verdict` meets its contract: the three numbers one after the other. Assumes nothing.
+-- `answer_line::write_verdict` meets its contract: the four numbers one after the other. Assumes nothing.
 use borrow.Author.Needs.{needs}
 use Rattle.answer_line.specs.Answer.{verdict}
 use Rattle.spell.proofs.Writing.{written-then}
@@ -14,18 +14,23 @@ write-next-natural-requires c κs = search needs
 write-next-natural-requires-2 : tie.Need-write-next-natural-requires-2
 write-next-natural-requires-2 c κs = search needs
 
+write-next-natural-requires-3 : tie.Need-write-next-natural-requires-3
+write-next-natural-requires-3 c κs = search needs
+
 same-length : tie.Need-same-length
 same-length c = search needs
 
 returns : tie.Need-returns
 unfolding verdict
 returns c =
-    let count = c .before .before in
+    let entries = c .before .before in
+    let count = entries .before .before .before .before in
     let place = count .before .before .before .before in
     let number = place .before .before .before .before in
-    written-then 41 _ _ _ _ _ 21 _ _ _
+    written-then 62 _ _ _ _ _ 21 _ _ _
+    (written-then 41 _ _ _ _ _ 21 _ _ _
     (written-then 20 _ _ _ _ _ 21 _ _ _ (number .write-natural .ensures) (place .write-next-natural .ensures))
-    (count .write-next-natural2 .ensures)
+    (count .write-next-natural2 .ensures)) (entries .write-next-natural3 .ensures)
 
 pub write-verdict-spec : {M : Type 1} → statement M
 write-verdict-spec =
@@ -34,5 +39,6 @@ write-verdict-spec =
     write-natural-requires
     write-next-natural-requires
     write-next-natural-requires-2
+    write-next-natural-requires-3
     same-length
     returns)

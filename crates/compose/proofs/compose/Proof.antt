@@ -26,8 +26,11 @@ begun c = judged c .before .before
 abbrev counted : tie.After-write-all-arg3 → tie.After-degree
 counted c = c .before .before .before .before .before
 
+abbrev reported : tie.After-write-all-arg3 → tie.After-reported
+reported c = counted c .before
+
 abbrev formed : tie.After-write-all-arg3 → tie.After-numerators
-formed c = counted c .before .before
+formed c = reported c .before .before
 
 abbrev accepted : tie.After-numerators → tie.Else1
 accepted c = c .before .before .before .before
@@ -60,6 +63,9 @@ slice-aggregate-numerators c = search needs
 numerators-requires : tie.Need-numerators-requires
 numerators-requires c κs = (c .before .before .table .ensures, fine (c .before .before .before), refl)
 
+reported-requires : tie.Need-reported-requires
+reported-requires c κs = search needs
+
 degree-requires : tie.Need-degree-requires
 degree-requires c κs = search needs
 
@@ -91,7 +97,7 @@ returns-2 c =
     let n = formed (w .before) in
     let o = accepted n in
     accepted-result (rq (begun o)) _ _ _ (fine o) (n .numerators .ensures .0) (counted (w .before) .degree .ensures) (room o .is)
-    _ (lent (begun o)) _ (judged o .judge .ensures) refl _ (w .write-all .ensures)
+    _ (lent (begun o)) _ _ (judged o .judge .ensures) (o .if1 .left) refl (reported (w .before) .reported .ensures) _ (w .write-all .ensures)
 
 pub compose-spec : {M : Type 1} → statement M
 compose-spec =
@@ -102,6 +108,7 @@ compose-spec =
     table-requires
     slice-aggregate-numerators
     numerators-requires
+    reported-requires
     degree-requires
     slice-aggregate-write-all
     write-all-requires

@@ -93,7 +93,7 @@ with-points n = record { high = mostPoints; low = mostPoints; points = n }
 
 returns : tie.Need-returns
 returns c =
-    let called = c .before .before .before in
+    let called = c .before .before .before .before in
     let path-read = called .before .before .before .before .before .before .before in
     let surface-read = path-read .before .before .before in
     let start = surface-read .before .before .before .before .before in

@@ -1,4 +1,4 @@
--- `exports::lean_compose` meets its contract: the composer's own, with the answer in three words. Assumes nothing.
+-- `exports::lean_compose` meets its contract: the composer's own, with the answer and the entries in four words. Assumes nothing.
 use borrow.Author.Needs.{needs}
 use native.Mathlib.Omega.{arith}
 use Rattle.compose.specs.Afterwards.{arrays}
@@ -25,6 +25,9 @@ put-requires-2 c κs = search needs
 put-requires-3 : tie.Need-put-requires-3
 put-requires-3 c κs = search needs
 
+put-requires-4 : tie.Need-put-requires-4
+put-requires-4 c κs = search needs
+
 same-length : tie.Need-same-length
 same-length c = search needs
 
@@ -39,14 +42,16 @@ same-length-4 c = search needs
 
 returns-2 : tie.Need-returns-2
 returns-2 c =
-    let third = c .before .before in
+    let fourth = c .before .before in
+    let third = fourth .before .before .before .before in
     let second = third .before .before .before .before in
     let first = second .before .before .before .before in
-    let called = first .before .before .before .before .before .before .before in
+    let called = first .before .before .before .before .before .before .before .before in
     let args = called .before .before .before .before .before .before .before .args in
     let rq = requestOf (args .form) (args .first) (args .second) (args .N) (args .surface .now) (args .path .now) in
-    answered rq _ (arrays (args .high .now) (args .low .now) (args .points .now)) _ _ _ _ _ _ _ (omega arith) (called .compose .ensures)
+    answered rq _ (arrays (args .high .now) (args .low .now) (args .points .now)) _ _ _ _ _ _ _ _ (omega arith) (called .compose .ensures)
     (first .before .wide .ensures) (first .put .ensures) (second .put2 .ensures) (third .put3 .ensures)
+    (fourth .put4 .ensures)
 
 pub lean-compose-spec : {M : Type 1} → statement M
 lean-compose-spec =
@@ -58,6 +63,7 @@ lean-compose-spec =
     put-requires
     put-requires-2
     put-requires-3
+    put-requires-4
     same-length
     same-length-2
     same-length-3

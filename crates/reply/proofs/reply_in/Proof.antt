@@ -12,7 +12,7 @@ use Rattle.reply.proofs.reply_in.Tie as tie
 
 -- where the composer has answered
 abbrev composing : tie.After-shown2 → tie.After-compose
-composing c = c .before .before .before .before .before .before
+composing c = c .before .before .before .before .before .before .before
 
 abbrev begun : tie.After-compose → tie.Start
 begun c = c .before .before .before .before .before .before
@@ -69,7 +69,7 @@ returns c =
     let counted = wrote .before .before .before .before .before in
     let composed = composing counted in
     let start = begun composed in
-    subst (λ bytes. Written 4096 (start .args .out .now) 0 bytes (wrote .write-answer .last .1 .1 .1 .1 .1 .1 .0)
+    subst (λ bytes. Written 4096 (start .args .out .now) 0 bytes (wrote .write-answer .last .1 .1 .1 .1 .1 .1 .1 .0)
     (wrote .write-answer .result))
     (replied _ _ _ (arrays (start .args .high .now) (start .args .low .now) (start .args .points .now)) _ (composed .compose .result)
     (counted .before .shown .result) (counted .shown2 .result)
