@@ -2,10 +2,13 @@
  *
  * Each array is a pointer and a length in elements. Ranges must not overlap where one of them is written, and no pointer may be
  * null, also where its length is 0. Any numbers are legal, and so are arrays of any lengths: what is wrong is answered. Each
- * function always returns.
+ * function always returns. Each is reentrant: it keeps nothing between calls, allocates nothing and calls nothing but memcpy and
+ * memset. An array stands where its element type may stand. Stack, time and code size: docs/FIRMWARE.md.
  */
 #ifndef LEAN_H
 #define LEAN_H
+
+#include "lean_version.h"
 
 #include <stddef.h>
 #include <stdint.h>
@@ -43,7 +46,7 @@ enum {
 uint32_t lean_compose(uint32_t form, uint32_t first, uint32_t second, uint32_t N, uint16_t age,
                       const int32_t *surface, size_t surface_length, const int32_t *path, size_t path_length,
                       int64_t *high, size_t high_length, uint64_t *low, size_t low_length,
-                      int32_t *points, size_t points_length, uint64_t *words, size_t words_length);
+                      int32_t *points, size_t points_length, uint64_t *words, size_t words_length) LEAN_NONNULL;
 
 /* ---- a composed net, read at a tick */
 
@@ -65,7 +68,7 @@ enum {
  * with halves away from zero. Writes to the first three words the number of the answer, the place (0 but for VALUE) and the
  * reading in 1/65536 of 0.01 mm (0 for a refusal), and returns 0; later words stay. With fewer than three words nothing is
  * written and 1 is returned. */
-uint32_t lean_tick(const int32_t *points, size_t points_length, uint32_t k, int64_t *words, size_t words_length);
+uint32_t lean_tick(const int32_t *points, size_t points_length, uint32_t k, int64_t *words, size_t words_length) LEAN_NONNULL;
 
 /* ---- the f64 card ----
  *
@@ -95,7 +98,7 @@ enum {
 };
 
 uint32_t lean_card(uint32_t m, const int32_t *surface, size_t surface_length, uint32_t line, double first, double second,
-                   double *numerators, size_t numerators_length, uint64_t *words, size_t words_length);
+                   double *numerators, size_t numerators_length, uint64_t *words, size_t words_length) LEAN_NONNULL;
 
 #ifdef __cplusplus
 }

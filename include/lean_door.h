@@ -30,6 +30,8 @@
 #ifndef LEAN_DOOR_H
 #define LEAN_DOOR_H
 
+#include "lean_version.h"
+
 #include <stddef.h>
 #include <stdint.h>
 
@@ -45,7 +47,22 @@ enum {
     LEAN_AGED_HEAD = 10,     /* bytes before the body of a request with an age */
     LEAN_MOST_AGE = 250,     /* the greatest age, in milliseconds, that is accepted */
     LEAN_REPLY_ROOM = 58,    /* a reply needs this much room, whatever it says */
-    LEAN_MOST_POINTS = 25
+    LEAN_MOST_POINTS = 25,
+    LEAN_MOST_REQUEST = 82   /* bytes of the longest request that is not FRAME: 10 and two for each of 15 values and 21 path numbers */
+};
+
+/* Where a record's fields stand: of both, of a request, and of a reply. */
+enum {
+    LEAN_AT_LENGTH = 0,
+    LEAN_AT_KIND = 2,
+    LEAN_AT_FORM = 4,
+    LEAN_AT_FIRST = 5,
+    LEAN_AT_SECOND = 6,
+    LEAN_AT_N = 7,
+    LEAN_AT_AGE = 8,
+    LEAN_AT_NUMBER = 4,
+    LEAN_AT_PLACE = 5,
+    LEAN_AT_COUNT = 6
 };
 
 /* The number in byte 4 of a reply, in the order of judgement. */
@@ -63,8 +80,15 @@ enum {
 
 /* Judges and composes one request. Writes the reply to the front of reply and returns its byte count; the bytes beyond it
  * stay. Under LEAN_REPLY_ROOM bytes of room nothing is written and 0 is returned. The two ranges must not overlap, and
- * neither pointer may be null, also where its length is 0. Any bytes are a legal request. It always returns. */
-size_t door_reply(const uint8_t *request, size_t request_length, uint8_t *reply, size_t reply_length);
+ * neither pointer may be null, also where its length is 0. Any bytes are a legal request. It always returns.
+ *
+ * The numbers 3, 4 and 5 (SURFACE, PATH, ROOM of lean.h) never come from the door: a body of another length is FRAME, and the
+ * reply room is asked for first.
+ *
+ * Reentrant: it keeps nothing between calls (no data, no bss), allocates nothing and calls nothing but memcpy and memset. Bytes may
+ * stand at any address. It uses the floating-point unit's vector registers (SSE2 on x86-64, NEON on AArch64) for whole numbers: an
+ * interrupt that calls it must save them. What it takes of stack, time and code: docs/FIRMWARE.md. */
+size_t door_reply(const uint8_t *request, size_t request_length, uint8_t *reply, size_t reply_length) LEAN_NONNULL;
 
 #ifdef __cplusplus
 }

@@ -48,7 +48,8 @@ fn write_next_words(n: Words, out: &mut [u8], at: usize) -> usize
 
 fn write_numerators(high: &[i64], low: &[u64], out: &mut [u8], at: usize) -> usize
     requires { ⌜ (length (now low) ≡ length (now high)) × (at + 41 * length (now high) ≤ length (now out)) ⌝ }
-    ensures { λ r. ⌜ Written (41 * length (now (high .entry))) (now (out .entry)) at (spaced (numbersOf (now (high .entry)) (now (low .entry)))) (now (out .exit)) r ⌝ }
+    ensures { λ r. ⌜ Written (41 * length (now (high .entry))) (now (out .entry)) at
+        (spaced (numbersOf (now (high .entry)) (now (low .entry)))) (now (out .exit)) r ⌝ }
 {
     let mut end = at;
     let mut k = 0;
@@ -122,7 +123,8 @@ pub fn write_answer(
     at: usize,
 ) -> usize
     requires { ⌜ Listed (now high) (now low) (now points) × (at + 4096 ≤ length (now out)) ⌝ }
-    ensures { λ r. ⌜ Written 4096 (now (out .entry)) at (answerLine number place count entries (numbersOf (now (high .entry)) (now (low .entry))) (now (points .entry))) (now (out .exit)) r ⌝ }
+    ensures { λ r. ⌜ Written 4096 (now (out .entry)) at
+        (answerLine number place count entries (numbersOf (now (high .entry)) (now (low .entry))) (now (points .entry))) (now (out .exit)) r ⌝ }
 {
     let a = write_verdict(number, place, count, entries, out, at);
     let b = write_lists(high, low, points, out, a);

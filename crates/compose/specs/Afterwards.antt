@@ -1,10 +1,11 @@
 -- What the three output arrays hold afterwards, and how many net entries are reported, for every input. Assumes nothing.
 use mathlib.Core.Bool.{cond}
-use mathlib.Core.List.{List, [], _∷_, _++_}
-use Prim.Native.Nat.{ℕ, zero, suc, _+_}
+use mathlib.Core.List.{List, _++_}
+use Prim.Native.Nat.{ℕ, _+_}
 use lib.Dec.{eqb}
 use lib.IntN.{ℤ}
 use lib.ListN.{length, drop}
+unfoldable pub use Rattle.lists.specs.Lists.{listBelow}
 use Rattle.two_words.specs.Words.{highWord, lowWord}
 use Rattle.request.specs.declared.Head.{Head}
 use Rattle.request.specs.declared.Rooms.{Rooms}
@@ -13,11 +14,6 @@ use Rattle.request.specs.Request.{Request}
 use Rattle.request.specs.Refusal.{answer}
 use Rattle.net.specs.Composed.{numerator, point}
 use Rattle.runs.specs.Tree.{Tree, tree, entries}
-
--- f 0, f 1, … below n
-unfoldable pub listBelow {ℓ} : {A : Type ℓ} → ℕ → (ℕ → A) → List A
-listBelow zero f = []
-listBelow (suc n) f = f zero ∷ listBelow n (λ k. f (suc k))
 
 -- the first count places are written and all later places stay; with count 0 nothing changes
 unfoldable pub afterwards {ℓ} : {A : Type ℓ} → ℕ → (ℕ → A) → List A → List A

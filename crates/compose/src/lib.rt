@@ -6,7 +6,6 @@ ghost use lib.ListN.{length, set};
 ghost use Rattle.whole.specs.Choose.{choose};
 ghost use Rattle.whole.specs.Round.{nearest};
 ghost use Rattle.two_words.specs.Words.{twoWords};
-ghost use Rattle.pascal.specs.Entry.{Pascal};
 ghost use Rattle.request.specs.Request.{requestOf};
 ghost use Rattle.sums.specs.Contract.{Formed};
 ghost use Rattle.compose.specs.Afterwards.{arrays, entriesOf};
@@ -43,17 +42,16 @@ fn put_point(points: &mut [i32], R: usize, t: Travel)
 }
 
 // The rounded point at R of a curve of degree L whose numerator there, n, is over binomial(L, R)·1024^r.
-fn rounded(table: &[u32; 325], n: Words, L: usize, r: usize, R: usize) -> Travel
-    requires { ⌜ Pascal (now table) × PointAt (twoWords (n .high .0) (n .low)) L r R ⌝ }
+fn rounded(n: Words, L: usize, r: usize, R: usize) -> Travel
+    requires { ⌜ PointAt (twoWords (n .high .0) (n .low)) L r R ⌝ }
     ensures { λ t. ⌜ t .0 ≡ nearest (twoWords (n .high .0) (n .low)) (choose L R * 1024 ^ r) ⌝ }
 {
-    let d = pascal::binomial(table, L, R);
+    let d = pascal::binomial(L, R);
     units::travel_of(two_words::rounded(n, d, r))
 }
 
 // Writes what stands at R: both words of its numerator, and its rounded point.
 fn write_place(
-    table: &[u32; 325],
     sums: &[i64],
     count: usize,
     r: usize,
@@ -62,18 +60,17 @@ fn write_place(
     low: &mut [u64],
     points: &mut [i32],
 )
-    requires { ⌜ Pascal (now table) × PointsAt (now sums) count r × (R < count) × Enough (arrays (now high) (now low) (now points)) count ⌝ }
+    requires { ⌜ PointsAt (now sums) count r × (R < count) × Enough (arrays (now high) (now low) (now points)) count ⌝ }
     ensures { λ _. ⌜ Put (now (sums .entry)) (count - 1) r R (arrays (now (high .entry)) (now (low .entry)) (now (points .entry))) (arrays (now (high .exit)) (now (low .exit)) (now (points .exit))) ⌝ }
 {
     let n = two_words::joined(sums, R);
     put_high(high, R, n.high);
     put_low(low, R, n.low);
-    put_point(points, R, rounded(table, n, count - 1, r, R));
+    put_point(points, R, rounded(n, count - 1, r, R));
 }
 
 // Writes the first `count` places of each array.
 fn write_all(
-    table: &[u32; 325],
     sums: &[i64],
     count: usize,
     r: usize,
@@ -81,12 +78,12 @@ fn write_all(
     low: &mut [u64],
     points: &mut [i32],
 )
-    requires { ⌜ Pascal (now table) × PointsAt (now sums) count r × Enough (arrays (now high) (now low) (now points)) count ⌝ }
+    requires { ⌜ PointsAt (now sums) count r × Enough (arrays (now high) (now low) (now points)) count ⌝ }
     ensures { λ _. ⌜ Wrote (now (sums .entry)) (count - 1) r count (arrays (now (high .entry)) (now (low .entry)) (now (points .entry))) (arrays (now (high .exit)) (now (low .exit)) (now (points .exit))) ⌝ }
 {
     let mut R = 0;
     while R < count {
-        write_place(table, sums, count, r, R, high, low, points);
+        write_place(sums, count, r, R, high, low, points);
         R += 1;
     }
 }
@@ -131,11 +128,10 @@ pub fn compose(
     if answer.number != 0 {
         return Composition { answer, entries: 0 };
     }
-    let table = pascal::table();
     let mut sums = [0i64; 50];
-    let formed = sums::numerators(&table, head, surface, path, &mut sums);
+    let formed = sums::numerators(head, surface, path, &mut sums);
     let entries = reported(head, formed);
     let r = request::degree(head) as usize;
-    write_all(&table, &sums, answer.count, r, high, low, points);
+    write_all(&sums, answer.count, r, high, low, points);
     Composition { answer, entries }
 }

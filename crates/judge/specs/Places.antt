@@ -1,16 +1,14 @@
 -- The places of VALUE and PARAMETER are one search over two tests: a control value's bounds, or a path number's. Assumes
 -- nothing.
 use mathlib.Core.Bool.{Bool, true, false}
-use mathlib.Core.List.{List}
+use mathlib.Core.List.{List, [], _∷_}
 use Prim.Native.Nat.{ℕ}
+use lib.Dec.{ltb}
 use lib.IntN.{ℤ, pos}
-use lib.ListN.{length, getD, drop}
+use lib.ListN.{length, getD}
 use Rattle.units.specs.Bounds.{beyondTravel, beyondPath}
-use Rattle.request.specs.declared.Answer.{Answer}
-use Rattle.request.specs.declared.Rooms.{Rooms}
-use Rattle.request.specs.Request.{Request}
-use Rattle.request.specs.Cascade.{first, decided}
-use Rattle.request.specs.Refusal.{least, accepted, refusals}
+use Rattle.request.specs.Cascade.{Test, test}
+use Rattle.request.specs.Refusal.{least, valuePlace, parameterPlace, uneven}
 
 -- beyond its bounds, by the kind of number: of a path, or of a surface
 abbrev pub beyond : Bool → ℤ → Bool
@@ -21,9 +19,11 @@ beyond false = beyondTravel
 abbrev pub beyondPlace : Bool → List ℤ → ℕ
 beyondPlace path numbers = least (length numbers) (λ k. beyond path (getD numbers k (pos 0)))
 
-abbrev pub noRooms : Rooms
-noRooms = record { high = 0; low = 0; points = 0 }
-
--- what the table answers from its seventh test on, VALUE, where the age and the rooms no longer count
-abbrev pub numbersJudged : Request → Answer
-numbersJudged rq = decided (first (drop 6 (refusals rq 0 noRooms))) (accepted (rq .head))
+-- VALUE, PARAMETER and BALANCE, each with its least place, the last over the first `points` points of a path: of form 3 and of a
+-- patch all points are to be balanced, of forms 1 and 2 none
+abbrev pub numberTests : List ℤ → List ℤ → ℕ → List Test
+numberTests surface path points =
+    test 6 (ltb (valuePlace surface) (length surface)) (valuePlace surface)
+    ∷ test 7 (ltb (parameterPlace path) (length path)) (parameterPlace path)
+    ∷ test 8 (ltb (least points (uneven path)) points) (least points (uneven path))
+    ∷ []

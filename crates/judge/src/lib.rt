@@ -4,11 +4,12 @@ mod places;
 
 ghost use mathlib.Core.Path.{_≡_};
 ghost use mathlib.Core.Bool.{false};
-ghost use Prim.Native.Nat.{_+_};
-ghost use Rattle.request.specs.Head.{longest};
+ghost use Prim.Native.Nat.{_+_, _≤_};
+ghost use Rattle.request.specs.Head.{byForm, longest};
 ghost use Rattle.request.specs.Request.{requestOf};
-ghost use Rattle.request.specs.Refusal.{notKind, notDegree, notRoom, valuePlace, accepted, answer};
-ghost use Rattle.judge.specs.Places.{numbersJudged};
+ghost use Rattle.request.specs.Cascade.{first, decided};
+ghost use Rattle.request.specs.Refusal.{notDegree, notRoom, valuePlace, accepted, answer};
+ghost use Rattle.judge.specs.Places.{numberTests};
 use places::balance_place;
 use places::beyond_place;
 use request::Answer;
@@ -62,10 +63,10 @@ fn acceptance(head: Head) -> Answer
     }
 }
 
-// The table from VALUE on: the numbers themselves, or the acceptance.
-fn judge_numbers(head: Head, surface: &[i32], path: &[i32]) -> Answer
-    requires { ⌜ (notKind head ≡ false) × (notDegree head ≡ false) ⌝ }
-    ensures { λ r. ⌜ r ≡ numbersJudged (requestOf head (now (surface .entry)) (now (path .entry))) ⌝ }
+// VALUE, PARAMETER and BALANCE of the first `points` path points, of rides and of patches; where none of them holds, the last word.
+pub fn judge_numbers(surface: &[i32], path: &[i32], points: usize, last: Answer) -> Answer
+    requires { ⌜ points ≤ 10 ⌝ }
+    ensures { λ r. ⌜ r ≡ decided (first (numberTests (now (surface .entry)) (now (path .entry)) points)) last ⌝ }
 {
     let value = beyond_place(false, surface);
     if value < surface.len() {
@@ -75,15 +76,25 @@ fn judge_numbers(head: Head, surface: &[i32], path: &[i32]) -> Answer
     if parameter < path.len() {
         return refusal(7, parameter);
     }
-    if head.form != 3 {
-        return acceptance(head);
-    }
-    let n = head.N as usize;
-    let balance = balance_place(path, n);
-    if balance < n + 1 {
+    let balance = balance_place(path, points);
+    if balance < points {
         return refusal(8, balance);
     }
-    acceptance(head)
+    last
+}
+
+// How many path points are to be balanced: all of form 3, none of the others.
+fn balanced(head: Head) -> usize
+    requires { ⌜ notDegree head ≡ false ⌝ }
+    ensures { λ r. ⌜ (r ≡ byForm head 0 0 (head .N + 1)) × (r ≤ 10) ⌝ }
+{
+    if head.form == 1 {
+        return 0;
+    }
+    if head.form == 2 {
+        return 0;
+    }
+    head.N as usize + 1
 }
 
 // The nine refusals in their order, each exactly on its condition, or the acceptance: document 01's answer to a request
@@ -112,5 +123,5 @@ pub fn judge(head: Head, age: Age, surface: &[i32], path: &[i32], rooms: Rooms) 
     if not_room(head, rooms) {
         return refusal(5, 0);
     }
-    judge_numbers(head, surface, path)
+    judge_numbers(surface, path, balanced(head), acceptance(head))
 }

@@ -1,11 +1,10 @@
 // Where a request's numbers are at fault: the least index of a control value or of a path number beyond its bounds, and the
 // least number of a path point that is not balanced.
 ghost use mathlib.Core.Path.{_≡_};
-ghost use Prim.Native.Nat.{_≤_};
+ghost use Prim.Native.Nat.{_≤_, _<_};
 ghost use lib.IntN.{pos};
 ghost use lib.ListN.{length, getD};
-ghost use Rattle.request.specs.Head.{mostN};
-ghost use Rattle.request.specs.Refusal.{uneven, parameterPlace, balancePlace};
+ghost use Rattle.request.specs.Refusal.{least, uneven, parameterPlace};
 ghost use Rattle.judge.specs.Places.{beyond, beyondPlace};
 
 // Whether number k, of a path or of a surface, is beyond its bounds.
@@ -34,7 +33,7 @@ pub fn beyond_place(path: bool, numbers: &[i32]) -> usize
 
 // Whether x + y + z of path point c is not 1024. The path's numbers are within their bounds.
 fn is_uneven(path: &[i32], c: usize) -> bool
-    requires { ⌜ (c ≤ mostN) × (parameterPlace (now path) ≡ length (now path)) ⌝ }
+    requires { ⌜ (c < 10) × (parameterPlace (now path) ≡ length (now path)) ⌝ }
     ensures { λ r. ⌜ r ≡ uneven (now (path .entry)) c ⌝ }
 {
     let x = units::path_size_at(path, 3 * c);
@@ -43,13 +42,13 @@ fn is_uneven(path: &[i32], c: usize) -> bool
     x + y + z != 1024
 }
 
-// The least number of a path point whose x + y + z is not 1024, or N + 1.
-pub fn balance_place(path: &[i32], n: usize) -> usize
-    requires { ⌜ (n ≤ mostN) × (parameterPlace (now path) ≡ length (now path)) ⌝ }
-    ensures { λ r. ⌜ r ≡ balancePlace (now (path .entry)) n ⌝ }
+// The least number of a path point, of the first `points`, whose x + y + z is not 1024, or `points`.
+pub fn balance_place(path: &[i32], points: usize) -> usize
+    requires { ⌜ (points ≤ 10) × (parameterPlace (now path) ≡ length (now path)) ⌝ }
+    ensures { λ r. ⌜ r ≡ least points (uneven (now (path .entry))) ⌝ }
 {
     let mut c = 0;
-    while c < n + 1 {
+    while c < points {
         if is_uneven(path, c) {
             return c;
         }

@@ -9,7 +9,7 @@ use lib.ListN.{getD}
 use Rattle.request.specs.declared.Head.{Head}
 use Rattle.request.specs.Head.{surfaceCount, pathCount}
 use Rattle.request.specs.Request.{Request}
-use Rattle.compose.specs.Afterwards.{listBelow}
+use Rattle.lists.specs.Lists.{listBelow}
 use Rattle.wire.specs.Words.{wordBytes, wordAt, numberBytes, numberAt}
 use Rattle.wire.specs.Start.{kindField, start, recordOf}
 

@@ -21,7 +21,8 @@ atTick r = (reading (r .points) 341, surfaceRead (r .request) 341 1024)
 
 -- our own rides of forms 2 and 3
 pub read-as-worked : map atTick ownRides ≡ (pos 35158183, pos 618472734214453951360) ∷ (pos 24392800, pos 429314425485368307120) ∷ []
-unfolding atTick ownRides ride short naturals below tensor triangle byForm numbers rowStart placeOf netOf numberAt pathNumber bernstein bernsteinTriangle coordinate scale surfaceRead sumOver choose pow one carried between lower after reading nearest onSideOf halfUp
+unfolding atTick ownRides ride short naturals below tensor triangle byForm numbers rowStart placeOf netOf numberAt pathNumber bernstein
+    bernsteinTriangle coordinate scale surfaceRead sumOver choose pow one carried between lower after reading nearest onSideOf halfUp
 read-as-worked = refl
 
 -- F 0, 4 along the path 128, 384, 896: the exact points 0.5, 1.5 and 3.5 become 1, 2 and 4, half a unit too much everywhere
@@ -29,13 +30,15 @@ unfoldable pub halves : Request
 halves = curve 1 2 (naturals (0 ∷ 4 ∷ [])) (naturals (128 ∷ 384 ∷ 896 ∷ []))
 
 pub halves-points : map (point halves) (0 ∷ 1 ∷ 2 ∷ []) ≡ naturals (1 ∷ 2 ∷ 4 ∷ [])
-unfolding halves naturals curve byForm degree longest numbers placeOf netOf numberAt pathNumber step blossom overChoices total weight arguments numerator denominator point nearest onSideOf halfUp sumTo sumOver choose
+unfolding halves naturals curve byForm degree longest numbers placeOf netOf numberAt pathNumber step blossom overChoices total weight arguments
+    numerator denominator point nearest onSideOf halfUp sumTo sumOver choose
 halves-points = refl
 
 -- and read at 3/1024 they are beyond half a unit: 939524096 of its scale more than 65,536 times it
 pub beyond-half : natAbs (pos 2 *ℤ (pos (1024 ^ 1 * 1024 ^ 2) *ℤ reading (naturals (1 ∷ 2 ∷ 4 ∷ [])) 3 -ℤ pos 65536 *ℤ surfaceRead halves 3 1024))
     ≡ 65536 * (1024 ^ 1 * 1024 ^ 2) + 939524096
-unfolding halves naturals curve byForm numbers placeOf netOf numberAt pathNumber bernstein coordinate scale surfaceRead sumOver choose pow one carried between lower after reading nearest onSideOf halfUp
+unfolding halves naturals curve byForm numbers placeOf netOf numberAt pathNumber bernstein coordinate scale surfaceRead sumOver choose pow one carried
+    between lower after reading nearest onSideOf halfUp
 beyond-half = refl
 
 -- of two steps the second may lose half a part: 0, 0, 2 read at 2/1024 is 1 part, and the curve half of one

@@ -40,7 +40,7 @@ use Rattle.net.proofs.Rounded.{choose-some, ⊑-sum-on}
 
 -- ---- a blossom value
 -- an argument that shares can be given for
-abbrev Shared : Argument → Type 0
+abbrev pub Shared : Argument → Type 0
 Shared a = (w : Shares) × Weighs w a
 
 -- it multiplies the bound by 1024
@@ -50,7 +50,7 @@ step-size a (w, weighs) p B most i j =
     rw (weighs .same p i j)
     (mixed-most (w .x) (w .y) (w .z) (p (suc i) j) (p i (suc j)) (p i j) B (weighs .one) (most (suc i) j) (most i (suc j)) (most i j))
 
-blossom-size : (l : List Argument) → Every Shared l → (p : Net) (B : ℕ) → ((i j : ℕ) → natAbs (p i j) ≤ B) → natAbs (blossom l p) ≤ 1024 ^ length l * B
+pub blossom-size : (l : List Argument) → Every Shared l → (p : Net) (B : ℕ) → ((i j : ℕ) → natAbs (p i j) ≤ B) → natAbs (blossom l p) ≤ 1024 ^ length l * B
 unfolding blossom
 blossom-size [] none p B most = let b = most 0 0 in omega arith
 blossom-size (a ∷ l) (more s e) p B most =
@@ -128,7 +128,7 @@ module _ (rq : Request) (fine : Composable rq) where
   blossom-most choice long every = le-trans (of-degree choice long every) (power-most (degree (rq .head)) (degree-most (rq .head) (fine .small)))
 
 -- ---- a sum over all choices: as often as the weights at R say, by Vandermonde's identity
-chooseFrom-self : (n s : ℕ) → chooseFrom n s s ≡ 1
+pub chooseFrom-self : (n s : ℕ) → chooseFrom n s s ≡ 1
 unfolding chooseFrom
 chooseFrom-self n zero = choose-zero n
 chooseFrom-self n (suc s) = chooseFrom-self n s

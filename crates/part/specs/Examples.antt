@@ -109,6 +109,7 @@ pub as-worked : (map asked worked ≡ map said worked)
     × (map (λ w. verdict (said w)) worked ≡ map (λ w. w .answer) worked)
     × (map (λ w. five (bitsAt (said w) (w .answer .count))) worked ≡ map (λ w. w .bits) worked)
 unfolding worked asked said refusal stay line requestOf named pathDegree headOf refusals verdict divided bitsAt five float bits pathOf ofInt ofBits toBits eq
-    first refused decided least notDegree notSurface notValue notParameter valuePlace parameterPlace accepted beyondTravel beyondPath byForm degree longest surfaceCount
+    first refused decided least notDegree notSurface notValue notParameter valuePlace parameterPlace accepted beyondTravel beyondPath byForm degree
+    longest surfaceCount
     numbers netOf placeOf numberAt pathNumber step blossom overChoices total weight arguments numerator sumOver sumTo choose
 as-worked = (refl, refl, refl)

@@ -1,28 +1,62 @@
--- What is answered: a binomial coefficient up to the last row, and at most the greatest, by a test of the rows, each made from the one
--- above it. Callers cite the bound for their own sums. Assumes nothing.
-use mathlib.Core.Path.{_≡_, refl, _∙_, ap₂}
-use mathlib.Core.Bool.{Bool}
+-- What is answered: a number of the table, which passes the test of a triangle and so holds the binomial coefficients, and at most the
+-- greatest, by a test of the rows, each made from the one above it. Callers cite the bound for their own sums. Assumes nothing.
+use mathlib.Core.Path.{_≡_, refl, sym, _∙_, ap, ap₂}
+use mathlib.Core.Bool.{Bool, true, false, cond}
 use mathlib.Core.List.{List, [], _∷_}
 use mathlib.Core.Logic.{_⊎_, inl, inr, ⊎-elim}
 use Prim.Native.Nat.{ℕ, zero, suc, _+_, _≤_, _<_}
-use native.Mathlib.Nat.{zero-add}
+use native.Mathlib.Nat.{zero-add, eq-or-lt-of-le}
 use native.Mathlib.Decide.{decLe}
 use native.Mathlib.Omega.{arith}
 use lib.Dec.{T, leb, leb→le}
-use lib.ListN.{getD}
+use lib.ListN.{length, getD, List·getD-eq-default}
 use borrow.Author.Tests.{le-leb, lt-leb}
 use Rattle.whole.specs.Choose.{choose}
 use Rattle.whole.proofs.Binomial.{choose-above}
-use Rattle.pascal.specs.Entry.{entry, lastRow, largest}
-use Rattle.pascal.proofs.Triangle.{each, each-at}
+use Rattle.pascal.specs.Entry.{lastRow, largest, placeOf, entry}
+use Rattle.pascal.specs.Table.{table}
+use Rattle.pascal.proofs.Triangle.{each, each-at, cell, cell-is}
 
-pub entry-in : (n k : ℕ) → n ≤ lastRow → entry n k ≡ choose n k
+pub entry-in : (last n k : ℕ) → n ≤ last → entry last n k ≡ choose n k
 unfolding entry
-entry-in n k h = rw (le-leb n lastRow h)
+entry-in last n k h = rw (le-leb n last h)
 
-pub entry-past : (n k : ℕ) → lastRow < n → entry n k ≡ 0
+pub entry-past : (last n k : ℕ) → last < n → entry last n k ≡ 0
 unfolding entry
-entry-past n k h = rw (lt-leb n lastRow h)
+entry-past last n k h = rw (lt-leb n last h)
+
+pub entry-above : (last n k : ℕ) → n < k → entry last n k ≡ 0
+unfolding entry
+entry-above last n k h = by (leb n last)
+  where
+    by : (b : Bool) → cond b (choose n k) 0 ≡ 0
+    by true = choose-above n k h
+    by false = refl
+
+-- ---- the table's numbers, by its test, which is computed here, once
+table-is : (n k : ℕ) → n ≤ lastRow → k ≤ n → cell table n k ≡ choose n k
+table-is = cell-is {t = table} {last = lastRow} (record { left = tt; right = tt; sums = tt })
+
+-- so the number at a row's place is the entry
+pub told : (last n k at x : ℕ) → last ≤ lastRow → n ≤ last → k ≤ n → at ≡ placeOf n k → x ≡ getD table at 0 → x ≡ entry last n k
+told last n k at x b h l e r =
+    r ∙ ap (λ y. getD table y 0) e ∙ table-is n k (omega arith) l ∙ sym (entry-in last n k h)
+
+-- what an arm of a `match` on the place answers, and what is answered past the end
+pub arm : {x k : ℕ} → x ≡ k → getD table k 0 ≡ getD table x 0
+arm e = sym (ap (λ y. getD table y 0) e)
+
+-- x is no place below n
+abbrev Apart : ℕ → ℕ → Type 0
+Apart x zero = Unit {0}
+Apart x (suc n) = Apart x n × (x ≡ n → ⊥)
+
+pub apart : (x n : ℕ) → Apart x n → n ≤ x
+apart x zero a = omega arith
+apart x (suc n) a = ⊎-elim (λ (e : n ≡ x). absurd (a .1 (sym e))) (λ (l : n < x). l) (eq-or-lt-of-le (apart x n (a .0)))
+
+pub past : (x : ℕ) → Apart x (length table) → 0 ≡ getD table x 0
+past x a = sym (List·getD-eq-default table 0 (apart x (length table) a))
 
 -- ---- the rows
 -- the sums of neighbours in a ∷ r, and then the last number
@@ -77,9 +111,9 @@ choose-bound b last t n k h =
 pub choose-most : (n k : ℕ) → n ≤ lastRow → choose n k ≤ largest
 choose-most = choose-bound largest lastRow tt
 
-pub entry-bound : (n k : ℕ) → entry n k ≤ largest
-entry-bound n k =
+pub entry-bound : (last n k : ℕ) → last ≤ lastRow → entry last n k ≤ largest
+entry-bound last n k l =
     ⊎-elim
-    (λ (h : n ≤ lastRow). rw (entry-in n k h) (choose-most n k h))
-    (λ (h : lastRow < n). omega (arith, entry-past n k h))
-    (order n lastRow)
+    (λ (h : n ≤ last). rw (entry-in last n k h) (choose-most n k (omega arith)))
+    (λ (h : last < n). omega (arith, entry-past last n k h))
+    (order n last)

@@ -11,7 +11,7 @@ use lib.Dec.{T, eqb, eqb→eq}
 use lib.ListN.{getD}
 use Rattle.whole.specs.Choose.{choose}
 use Rattle.whole.proofs.Binomial.{choose-zero, choose-pascal, choose-above}
-use Rattle.pascal.specs.Entry.{cellOf}
+use Rattle.pascal.specs.Entry.{placeOf}
 
 -- ---- a test passes at each number below n
 abbrev pub each : ℕ → (ℕ → Bool) → Bool
@@ -32,9 +32,9 @@ each-at (suc n) f t (suc k) h = each-at n (λ k. f (suc k)) (both (f 0) (each n 
 pub row-within : (last n : ℕ) → n ≤ last → n * (n + 1) ≤ last * (last + 1)
 row-within last n h = let m : n + 1 ≤ last + 1 = omega arith in mul-le-mul h m
 
--- a table's number, open to be computed
-abbrev cell : List ℕ → ℕ → ℕ → ℕ
-cell t n k = getD t (n * (n + 1) / 2 + k) 0
+-- the number at place k of row n
+abbrev pub cell : List ℕ → ℕ → ℕ → ℕ
+cell t n k = getD t (placeOf n k) 0
 
 -- the tests: a row's first number, its last, and a number between them
 abbrev left-end : List ℕ → ℕ → Bool
@@ -64,7 +64,7 @@ module _ {t : List ℕ} {last : ℕ} (test : Triangle t last) where
   sum-is : (n k : ℕ) → n < last → k < n → cell t (suc n) (suc k) ≡ cell t n k + cell t n (suc k)
   sum-is n k h l = eqb→eq _ _ (each-at n (inner t n) (each-at last (inners t) (test .sums) n h) k l)
 
-  cell-is : (n k : ℕ) → n ≤ last → k ≤ n → cell t n k ≡ choose n k
+  pub cell-is : (n k : ℕ) → n ≤ last → k ≤ n → cell t n k ≡ choose n k
   cell-is zero zero h l = left-is 0 h ∙ sym (choose-zero 0)
   cell-is zero (suc k) h l = absurd (omega arith)
   cell-is (suc n) zero h l = left-is (suc n) h ∙ sym (choose-zero (suc n))
@@ -76,7 +76,3 @@ module _ {t : List ℕ} {last : ℕ} (test : Triangle t last) where
       rw (choose-pascal, e) (right-is (suc n) h ∙ ap₂ _+_ one (sym (choose-above n (suc n) (omega arith)))))
       (λ (b : k < n). sum-is n k h b ∙ ap₂ _+_ (row k (omega arith)) (row (suc k) b) ∙ sym (choose-pascal n k))
       (eq-or-lt-of-le (le-of-suc-le-suc l))
-
-  pub holds : (n k : ℕ) → n ≤ last → k ≤ n → cellOf t n k ≡ choose n k
-  unfolding cellOf
-  holds = cell-is

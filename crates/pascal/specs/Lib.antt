@@ -1,2 +1,3 @@
--- Pascal's triangle: what the table answers. Assumes nothing.
+-- Pascal's triangle: the table, and what is answered from it. Assumes nothing.
 pub mod Entry
+pub mod Table

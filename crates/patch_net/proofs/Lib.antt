@@ -5,3 +5,5 @@ pub mod Evaluated
 pub mod Half
 pub mod Standing
 pub mod Kept
+pub mod Ways
+pub mod Sizes

@@ -1,12 +1,17 @@
 -- Where an index stands: (i, j, k) of degree d at `rowStart d i + j` of the indices in their order, of which there are
 -- (d+1)(d+2)/2. Assumes nothing.
-use mathlib.Core.Path.{_≡_, refl, _∙_, ap, subst}
+use mathlib.Core.Path.{_≡_, refl, sym, _∙_, ap, subst}
+use mathlib.Core.Bool.{cond}
 use mathlib.Core.List.{List, _++_}
-use Prim.Native.Nat.{ℕ, zero, suc, _+_, _*_, _<_}
-use native.Mathlib.Nat.{add-zero, zero-add, suc-add, add-suc, mul-comm, mul-add, div-add-mod, mod-lt}
+use Prim.Native.Nat.{ℕ, zero, suc, _+_, _*_, _-_, _≤_, _<_}
+use native.Mathlib.Nat.{add-zero, zero-add, suc-add, add-suc, mul-comm, mul-add, mul-le-mul, div-add-mod, mod-lt}
+use native.Mathlib.Numerals.{add-one}
+use native.Mathlib.Decide.{ℕ-discrete}
 use native.Mathlib.Omega.{arith}
+use lib.Dec.{eqb}
 use lib.ListN.{length, getD, length-append, List·getD-append}
 use lib.Seq.{getD-append-add}
+use borrow.Author.Tests.{eq-eqb, ne-eqb}
 use Rattle.net.specs.Net.{rowStart}
 use Rattle.patch_net.specs.Patch.{Index, index, row, rows, indices, indexAt, places}
 use Rattle.patch_net.proofs.Indices.{degree}
@@ -104,3 +109,56 @@ indices-length d =
 pub place-inside : (d : ℕ) (t : Index) → degree t ≡ d → rowStart d (t .i) + t .j < places d
 unfolding indices
 place-inside d t h = subst (λ (x : ℕ). rowStart d (t .i) + t .j < x) (indices-length d) (rw (← h) (rows-inside (t .i) 0 (t .j) (t .k)))
+
+-- a net of a greater degree has more places
+pub places-most : (d m : ℕ) → d ≤ m → places d ≤ places m
+unfolding places
+places-most d m h =
+    let x = (d + 1) * (d + 2) in
+    let y = (m + 1) * (m + 2) in
+    let one : d + 1 ≤ m + 1 = omega arith in
+    let two : d + 2 ≤ m + 2 = omega arith in
+    omega (arith, mul-le-mul one two, div-add-mod x 2, div-add-mod y 2, mod-lt x {m = 2} (omega arith), mod-lt y {m = 2} (omega arith))
+
+-- ---- one index after the other
+-- t is the index of degree d at a place
+pub record Stands (d place : ℕ) (t : Index) : Type 0 where
+  pub whole : degree t ≡ d
+  pub here : rowStart d (t .i) + t .j ≡ place
+
+pub stands-at : (d place : ℕ) (t : Index) → Stands d place t → indexAt d place ≡ t
+stands-at d place t s = ap (indexAt d) (sym (s .here)) ∙ index-at d t (s .whole)
+
+pub stands-first : (d : ℕ) → Stands d 0 (index 0 0 d)
+stands-first d = record { whole = omega arith; here = rw (start-zero d) }
+
+-- (d, 0, 0) is the last
+start-last : (d i : ℕ) → rowStart d d + 1 ≡ length (rows i d)
+start-last zero i = rw (rows-zero i, row-length i 0 0, start-zero 0)
+start-last (suc d) i = omega (arith, start-suc d d, rows-length-suc i d, start-last d (suc i))
+
+-- in a row j is one more; where a row ends, i is, and j begins at 0
+unfoldable pub nextOf : Index → Index
+nextOf t = cond (eqb (t .k) 0) (index (t .i + 1) 0 (t .j - 1)) (index (t .i) (t .j + 1) (t .k - 1))
+
+start-next : (d i : ℕ) → rowStart d (i + 1) ≡ rowStart d i + (d - i + 1)
+unfolding rowStart
+start-next d i = rw (add-one i)
+
+pub stands-next : (d place : ℕ) (t : Index) → Stands d place t → place + 1 < places d → Stands d (place + 1) (nextOf t)
+unfolding nextOf indices
+stands-next d place t s more = go (ℕ-discrete (t .k) 0) (ℕ-discrete (t .j) 0)
+  where
+    w : degree t ≡ d
+    w = s .whole
+
+    e : rowStart d (t .i) + t .j ≡ place
+    e = s .here
+
+    go : Dec (t .k ≡ 0) → Dec (t .j ≡ 0)
+        → Stands d (place + 1) (cond (eqb (t .k) 0) (index (t .i + 1) 0 (t .j - 1)) (index (t .i) (t .j + 1) (t .k - 1)))
+    go (yes z) (yes y) =
+        let i : t .i ≡ d = omega arith in
+        absurd (omega (arith, rw i at e, start-last d 0, indices-length d))
+    go (yes z) (no y) = rw (eq-eqb (t .k) 0 z) (record { whole = omega arith; here = rw (start-next d (t .i)) (omega arith) })
+    go (no z) y = rw (ne-eqb (t .k) 0 z) (record { whole = omega arith; here = omega arith })

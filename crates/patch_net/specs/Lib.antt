@@ -6,4 +6,5 @@ pub mod Composed
 pub mod Afterwards
 pub mod Reading
 pub mod Demands
+pub mod Sizes
 pub mod Worked

@@ -12,6 +12,9 @@ pub record Patch : Type 0 where
   pub surface : List ℤ
   pub path : List ℤ
 
+abbrev pub patchOf : ℕ → ℕ → List ℤ → List ℤ → Patch
+patchOf n N surface path = record { outer = n; domain = N; surface = surface; path = path }
+
 -- "Outer degree and domain degree 0 to 3, product at most 9"
 abbrev pub mostDegree : ℕ
 mostDegree = 3

@@ -15,7 +15,7 @@ use Rattle.request.specs.Refusal.{least, valuePlace, parameterPlace, uneven, is
 use Rattle.net.specs.Net.{rowStart}
 use Rattle.net.specs.Blossom.{step, blossom}
 use Rattle.net.specs.Reading.{bernstein, bernsteinTriangle}
-use Rattle.patch_net.specs.Patch.{Patch, longest, places, index, row, rows, indices, netOf, pathNumber}
+use Rattle.patch_net.specs.Patch.{Patch, patchOf, longest, places, index, row, rows, indices, netOf, pathNumber}
 use Rattle.patch_net.specs.Refusal.{notDegree, notSurface, notPath, notRoom, notValue, notParameter, balancePlace, notBalance, refusals, accepted, answer}
 use Rattle.patch_net.specs.Composed.{multinomial, overIndices, overChoices, total, weight, arguments, numerator, denominator, point}
 use Rattle.patch_net.specs.Afterwards.{afterwards, exactAfter, pointsAfter}
@@ -29,7 +29,7 @@ unfoldable pub below : ℕ → ℤ
 below n = negℤ (pos n)
 
 unfoldable pub patch : ℕ → ℕ → List ℤ → List ℤ → Patch
-patch n N surface path = record { outer = n; domain = N; surface = surface; path = path }
+patch = patchOf
 
 -- ---- 01's triangular order, written out for degree 2, and some multinomials
 pub order : indices 2 ≡ index 0 0 2 ∷ index 0 1 1 ∷ index 0 2 0 ∷ index 1 0 1 ∷ index 1 1 0 ∷ index 2 0 0 ∷ []

@@ -21,11 +21,11 @@ use Rattle.net.specs.Net.{numberAt}
 use Rattle.sums.specs.Filled.{termNumbers, PointAt}
 
 -- ---- a run of stores
-sets-before : (v l : List ℕ) (i k : ℕ) → k < i → getD (sets l i v) k 0 ≡ getD l k 0
+pub sets-before : (v l : List ℕ) (i k : ℕ) → k < i → getD (sets l i v) k 0 ≡ getD l k 0
 sets-before [] l i k h = refl
 sets-before (a ∷ v) l i k h = sets-before v (set l i a) (suc i) k (omega arith) ∙ getD-set-other l i k a 0 (λ e. omega arith)
 
-sets-at : (v l : List ℕ) (i j : ℕ) → i + length v ≤ length l → j < length v → getD (sets l i v) (i + j) 0 ≡ getD v j 0
+pub sets-at : (v l : List ℕ) (i j : ℕ) → i + length v ≤ length l → j < length v → getD (sets l i v) (i + j) 0 ≡ getD v j 0
 sets-at [] l i j h m = absurd (omega arith)
 sets-at (a ∷ v) l i zero h m = rw (add-zero i) (sets-before v (set l i a) (suc i) i (omega arith) ∙ getD-set-same l i a 0 (omega arith))
 sets-at (a ∷ v) l i (suc j) h m = rw (add-suc i j, ← (suc-add i j)) (sets-at v (set l i a) (suc i) j (rw length-set (omega arith)) (omega arith))

@@ -8,9 +8,9 @@ use Rattle.request.specs.declared.Head.{Head}
 use Rattle.net.specs.Net.{numberAt}
 use Rattle.gather.specs.Table.{keyAt, weightAt, shareAt}
 
--- the four numbers of term c
+-- the four numbers of a term
 abbrev pub termNumbers : ℕ → ℕ → ℕ → ℕ → List ℕ
-termNumbers c weight a b = c ∷ weight ∷ a ∷ b ∷ []
+termNumbers key weight a b = key ∷ weight ∷ a ∷ b ∷ []
 
 pub record PointAt (h : Head) (path : List ℤ) (t : List ℕ) (c : ℕ) : Type 0 where
   pub key : keyAt t c ≡ c

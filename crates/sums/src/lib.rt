@@ -8,7 +8,6 @@ ghost use lib.IntN.{pos, natAbs};
 ghost use lib.Dec.{eqb, ltb};
 ghost use lib.ListN.{length, getD, set, replicate};
 ghost use lib.Seq.{sets};
-ghost use Rattle.pascal.specs.Entry.{Pascal};
 ghost use Rattle.limbs.specs.Limbs.{Gained};
 ghost use Rattle.request.specs.Head.{numbers};
 ghost use Rattle.request.specs.Refusal.{notDegree, valuePlace};
@@ -59,21 +58,21 @@ fn store(t: &mut [u32; 40], k: usize, x: u64)
     t[k] = v;
 }
 
-// Stores term c: its key is its number.
-fn store_term(t: &mut [u32; 40], c: usize, weight: u64, a: u64, b: u64)
-    requires { ⌜ (c < 10) × (weight < 2 ^ 32) × (a ≤ 1024) × (b ≤ 1024) ⌝ }
-    ensures { λ _. ⌜ now (t .exit) ≡ sets (now (t .entry)) (4 * c) (termNumbers c weight a b) ⌝ }
+// Stores term c, of a ride or of a patch.
+pub fn store_term(t: &mut [u32; 40], c: usize, key: u64, weight: u64, a: u64, b: u64)
+    requires { ⌜ (c < 10) × (key < 2 ^ 32) × (weight < 2 ^ 32) × (a ≤ 1024) × (b ≤ 1024) ⌝ }
+    ensures { λ _. ⌜ now (t .exit) ≡ sets (now (t .entry)) (4 * c) (termNumbers key weight a b) ⌝ }
 {
     let k = 4 * c;
-    store(t, k, c as u64);
+    store(t, k, key);
     store(t, k + 1, weight);
     store(t, k + 2, a);
     store(t, k + 3, b);
 }
 
 // The terms of a ride: point c weighs N over c, its key is its number.
-fn fill(table: &[u32; 325], head: Head, path: &[i32], t: &mut [u32; 40])
-    requires { ⌜ Pascal (now table) × (notDegree head ≡ false) × GoodPath head (now path) × (length (now t) ≡ 40) ⌝ }
+fn fill(head: Head, path: &[i32], t: &mut [u32; 40])
+    requires { ⌜ (notDegree head ≡ false) × GoodPath head (now path) × (length (now t) ≡ 40) ⌝ }
     ensures { λ _. ⌜ Filled head (now (path .entry)) (now (t .exit)) ⌝ }
 {
     let n = head.N as usize;
@@ -82,7 +81,7 @@ fn fill(table: &[u32; 325], head: Head, path: &[i32], t: &mut [u32; 40])
         let per = numbers(head);
         let a = units::path_size_at(path, per * c);
         let b = beside(path, per, c);
-        store_term(t, c, pascal::binomial(table, n, c), a, b);
+        store_term(t, c, c as u64, pascal::weight(n, c), a, b);
         c += 1;
     }
 }
@@ -173,8 +172,8 @@ fn rectangle(
     gather::gather_row(t, count, second, net, r, 0, begun, 0, 1, sums)
 }
 
-// And of a triangle.
-fn triangle(t: &[u32; 40], count: usize, surface: &[i32], r: usize, sums: &mut [i64]) -> u64
+// And of a triangle, of form 3 or of a patch.
+pub fn triangle(t: &[u32; 40], count: usize, surface: &[i32], r: usize, sums: &mut [i64]) -> u64
     requires { ⌜ (0 < r) × Ready (now t) count 0 0 r 0 r 0 1 (now sums) × Even (now t) count × (valuePlace (now surface) ≡ length (now surface)) ⌝ }
     ensures { λ n. ⌜ Counted (now (t .entry)) count 2 0 r 0 n × Gained (now (sums .entry)) (now (sums .exit)) (owing (now (t .entry)) count 0 0 r 0 r 0 1 (stacked r (now (surface .entry)))) (duty (now (t .entry)) count 0 0 r 0 r 1) ⌝ }
 {
@@ -201,14 +200,8 @@ fn flat(head: Head) -> bool
 }
 
 // The exact numerators of a request that document 01 accepts, added to places that are 0: the entries that were formed for it.
-pub fn numerators(
-    table: &[u32; 325],
-    head: Head,
-    surface: &[i32],
-    path: &[i32],
-    sums: &mut [i64],
-) -> u64
-    requires { ⌜ Pascal (now table) × Composable (record { head = head; surface = now surface; path = now path }) × (now sums ≡ replicate (2 * places) (pos 0)) ⌝ }
+pub fn numerators(head: Head, surface: &[i32], path: &[i32], sums: &mut [i64]) -> u64
+    requires { ⌜ Composable (record { head = head; surface = now surface; path = now path }) × (now sums ≡ replicate (2 * places) (pos 0)) ⌝ }
     ensures { λ n. ⌜ Summed (record { head = head; surface = now (surface .entry); path = now (path .entry) }) (now (sums .exit)) × Formed head n ⌝ }
 {
     let r = request::degree(head) as usize;
@@ -218,7 +211,7 @@ pub fn numerators(
     }
     let count = head.N as usize + 1;
     let mut t = [0u32; 40];
-    fill(table, head, path, &mut t);
+    fill(head, path, &mut t);
     if flat(head) {
         return rectangle(&t, count, head.second as usize, surface, r, sums);
     }

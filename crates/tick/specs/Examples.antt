@@ -51,5 +51,6 @@ readings =
     ∷ []
 
 pub as-worked : map (λ (w : Worked). told (w .points) (w .k)) readings ≡ map (λ (w : Worked). w .answer) readings
-unfolding below longestNet worked readings carried between lower after reading notNet notPoint notMoment refusals judged told first refused decided least valuePlace beyondTravel nearest onSideOf halfUp
+unfolding below longestNet worked readings carried between lower after reading notNet notPoint notMoment refusals judged told first refused decided
+    least valuePlace beyondTravel nearest onSideOf halfUp
 as-worked = refl

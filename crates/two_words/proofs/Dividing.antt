@@ -2,12 +2,11 @@
 use mathlib.Core.Path.{_≡_, refl, sym, _∙_, ap}
 use mathlib.Core.Bool.{true, false, not, true≢false}
 use Prim.Native.Nat.{ℕ, zero, suc, _+_, _*_, _-_, _/_, _%_, _^_, _≤_, _<_}
-use native.Mathlib.Nat.{mul-comm, mul-assoc, mul-add, mul-div-mul-left, div-eq-of-lt, mul-le-mul-right, add-mul-div-right, div-div-eq-div-mul, div-lt-iff-lt-mul, pow-le-pow-right}
+use native.Mathlib.Nat.{mul-comm, mul-assoc, mul-add, mul-div-mul-left, mul-le-mul-right, add-mul-div-right, div-div-eq-div-mul, div-lt-iff-lt-mul, pow-le-pow-right}
 use native.Mathlib.Omega.{arith}
 use lib.IntN.{ℤ, pos, negsuc, negℤ, natAbs}
-use lib.Signed.{nonNeg}
+use lib.Signed.{mag, nonNeg}
 use Rattle.whole.specs.Round.{halfUp, onSideOf, nearest}
-use Rattle.whole.proofs.Halves.{side-size}
 use Rattle.two_words.specs.Words.{twoWords, Doublable, Roundable}
 use Rattle.two_words.proofs.Only.{below-zero}
 
@@ -75,50 +74,54 @@ unfolding onSideOf
 same-side (pos h) low y l = side-above (pos h) low y refl
 same-side (negsuc h) low y l = side-below (negsuc h) low y l refl
 
--- ---- the same by `nearest` itself, of a numerator of 64 bits over 2d
+-- ---- the same by `nearest` itself, of a size of 64 bits over 2d
 half-doubled : (x d : ℕ) → 0 < d → halfUp x (2 * d) ≡ (x + d) / (2 * d)
 half-doubled x d h =
     sym (plain x (2 * d) (omega arith)) ∙ ap (λ (y : ℕ). y / (2 * (2 * d))) (sym (mul-add 2 x d)) ∙ mul-div-mul-left (x + d) (2 * d) (omega arith)
 
-on-sides : (n : ℤ) (x d : ℕ) → 0 < d → onSideOf (onSideOf n x) (halfUp x d) ≡ onSideOf n (halfUp x d)
-unfolding onSideOf
-on-sides (pos a) x d h = refl
-on-sides (negsuc a) (suc x) d h = refl
-on-sides (negsuc a) zero d h = rw (none d h)
-  where
-    none : (d : ℕ) → 0 < d → halfUp 0 d ≡ 0
-    none d h = sym (plain 0 d h) ∙ div-eq-of-lt (omega arith)
+pub nearest-size : (x d : ℕ) → nearest (pos x) d ≡ pos (halfUp x d)
+unfolding nearest onSideOf
+nearest-size x d = refl
 
-pub reduced : (n : ℤ) (d P : ℕ) → 0 < d → 0 < P → nearest (onSideOf n (2 * natAbs n / P)) (2 * d) ≡ nearest n (d * P)
+pub size-fits : (z : ℤ) (y : ℕ) → z ≡ pos y → mag z < 2 ^ 63 → natAbs z < 2 ^ 63
+size-fits z y e h = let m : mag (pos y) < 2 ^ 63 = rw e at h in rw e m
+
+-- a point is the size's point on n's side of zero
+pub reduced : (n : ℤ) (d P : ℕ) → 0 < d → 0 < P → onSideOf n (natAbs (nearest (pos (2 * natAbs n / P)) (2 * d))) ≡ nearest n (d * P)
 unfolding nearest
 reduced n d P h k =
-    ap (λ (y : ℕ). onSideOf (onSideOf n x) (halfUp y (2 * d))) (side-size n x) ∙ on-sides n x (2 * d) (omega arith)
-    ∙ ap (onSideOf n) (half-doubled x d h ∙ shifted (natAbs n) d P h k)
-  where
-    x : ℕ
-    x = 2 * natAbs n / P
+    let x = 2 * natAbs n / P in
+    ap (λ z. onSideOf n (natAbs z)) (nearest-size x (2 * d)) ∙ ap (onSideOf n) (half-doubled x d h ∙ shifted (natAbs n) d P h k)
 
--- ---- each power of 1024 by itself
-module _ (high low r : ℕ) (h : Doublable high low r) where
-  abbrev twice : ℕ
-  twice = 2 * (2 ^ 64 * high + low) / 1024 ^ r
+-- ---- twice a size over 1024^r: no argument, and by one shift
+abbrev twice : ℕ → ℕ → ℕ → ℕ
+twice high low r = 2 * (2 ^ 64 * high + low) / 1024 ^ r
 
-  pub double-0 : r ≡ 0 → (2 * low < 2 ^ 64) × (2 * low ≡ twice)
-  double-0 e = let m : 2 ^ 64 * high + low < 2 ^ 34 = rw e at (h .most) in (omega arith, rw e (omega arith))
+pub double-none : (high low r : ℕ) → Doublable high low r → r ≡ 0 → (2 * low < 2 ^ 64) × (2 * low ≡ twice high low r)
+double-none high low r h e = let m : 2 ^ 64 * high + low < 2 ^ 34 = rw e at (h .most) in (omega arith, rw e (omega arith))
 
-  pub double-1 : r ≡ 1 → low / 512 ≡ twice
-  double-1 e = let m : 2 ^ 64 * high + low < 2 ^ 44 = rw e at (h .most) in rw e (omega arith)
-
-  pub double-2 : r ≡ 2 → low / 524288 ≡ twice
-  double-2 e = let m : 2 ^ 64 * high + low < 2 ^ 54 = rw e at (h .most) in rw e (omega arith)
-
-  pub double-3 : r ≡ 3 → low / 536870912 ≡ twice
-  double-3 e = let m : 2 ^ 64 * high + low < 2 ^ 64 = rw e at (h .most) in rw e (omega arith)
-
-  pub double-4 : r ≡ 4 → (high * 33554432 < 2 ^ 36) × (high * 33554432 + low / 549755813888 ≡ twice)
-  double-4 e = let m : 2 ^ 64 * high + low < 2 ^ 74 = rw e at (h .most) in (omega arith, rw e (omega arith))
+pub double-some : (high low r : ℕ) → Doublable high low r → 0 < r
+    → (high * 33554432 < 2 ^ 36) × (high * 33554432 + low / 2 ^ (10 * r - 1) ≡ twice high low r)
+double-some high low zero h p = absurd (omega arith)
+double-some high low (suc zero) h p = let m : 2 ^ 64 * high + low < 2 ^ 44 = h .most in (omega arith, omega arith)
+double-some high low (suc (suc zero)) h p = let m : 2 ^ 64 * high + low < 2 ^ 54 = h .most in (omega arith, omega arith)
+double-some high low (suc (suc (suc zero))) h p = let m : 2 ^ 64 * high + low < 2 ^ 64 = h .most in (omega arith, omega arith)
+double-some high low (suc (suc (suc (suc zero)))) h p =
+    let m : 2 ^ 64 * high + low < 2 ^ 74 = h .most in
+    let l = h .below in
+    (omega arith, omega arith)
+double-some high low (suc (suc (suc (suc (suc r))))) h p = absurd (let f = h .few in omega arith)
 
 -- ---- no step overflows
+shift-small : (low by : ℕ) → low < 2 ^ 64 → 0 < by → low / 2 ^ by < 2 ^ 63
+shift-small low by l h =
+    let p : 2 ≤ 2 ^ by = pow-le-pow-right {n = 2} (omega arith) {i = 1} {j = by} h in
+    let q : 0 < 2 ^ by = omega arith in
+    div-lt-iff-lt-mul q .1 (omega (arith, mul-le-mul-right (2 ^ 63) p))
+
+pub sum-fits : (top low by : ℕ) → top < 2 ^ 36 → low < 2 ^ 64 → 0 < by → top + low / 2 ^ by < 2 ^ 64
+sum-fits top low by t l h = omega (arith, t, shift-small low by l h)
+
 pub positive : (r : ℕ) → 0 < 1024 ^ r
 positive r = pow-le-pow-right {n = 1024} (omega arith) {i = 0} {j = r} (omega arith)
 

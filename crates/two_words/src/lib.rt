@@ -87,7 +87,8 @@ pub fn size_of(n: Words) -> Size
     Size { high, low }
 }
 
-// Twice a size over 1024^r, cut off: only four arguments make a high word other than 0.
+// Twice a size over 1024^r, cut off: one shift for every r but 0, and no branch on r. Only four arguments make a high word
+// other than 0.
 fn doubled(a: Size, r: usize) -> u64
     requires { ⌜ Doublable (a .high) (a .low) r ⌝ }
     ensures { λ x. ⌜ x ≡ 2 * (2 ^ 64 * a .high + a .low) / 1024 ^ r ⌝ }
@@ -95,16 +96,8 @@ fn doubled(a: Size, r: usize) -> u64
     if r == 0 {
         return 2 * a.low;
     }
-    if r == 1 {
-        return a.low / 512;
-    }
-    if r == 2 {
-        return a.low / 524288;
-    }
-    if r == 3 {
-        return a.low / 536870912;
-    }
-    a.high * 33554432 + a.low / 549755813888
+    let by = 10 * r - 1;
+    a.high * 33554432 + (a.low >> by)
 }
 
 // The number of size x on n's side of zero.
@@ -119,10 +112,13 @@ fn on_side(n: Num, x: u64) -> Num
     }
 }
 
-// The rounded point of n/(d·1024^r): the powers of 1024 are shifted away first, so that what is divided fits 64 bits.
+// The rounded point of n/(d·1024^r): the powers of 1024 are shifted away first, so that what is divided fits 64 bits. The size
+// is rounded and the sign put back after it, since a processor divides small numbers fast and nobody can foresee the sign.
 pub fn rounded(n: Words, d: u64, r: usize) -> Num
     requires { ⌜ Roundable (twoWords (n .high .0) (n .low)) d r ⌝ }
     ensures { λ p. ⌜ p .0 ≡ nearest (twoWords (n .high .0) (n .low)) (d * 1024 ^ r) ⌝ }
 {
-    whole::nearest(on_side(n.high, doubled(size_of(n), r)), 2 * d)
+    let twice = whole::plus(doubled(size_of(n), r));
+    let point = whole::nearest(twice, 2 * d);
+    on_side(n.high, whole::size(point))
 }

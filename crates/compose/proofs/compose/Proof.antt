@@ -24,7 +24,7 @@ abbrev begun : tie.Else1 → tie.Start
 begun c = judged c .before .before
 
 abbrev counted : tie.After-write-all-arg3 → tie.After-degree
-counted c = c .before .before .before .before .before
+counted c = c .before .before .before .before
 
 abbrev reported : tie.After-write-all-arg3 → tie.After-reported
 reported c = counted c .before
@@ -33,7 +33,7 @@ abbrev formed : tie.After-write-all-arg3 → tie.After-numerators
 formed c = reported c .before .before
 
 abbrev accepted : tie.After-numerators → tie.Else1
-accepted c = c .before .before .before .before
+accepted c = c .before .before
 
 -- what the judgement says there
 fine : (c : tie.Else1) → Composable (rq (begun c))
@@ -54,14 +54,11 @@ returns c =
     let s = j .before .before in
     refused-result (rq s) _ (lent s) _ (j .judge .ensures) (c .if1 .taken)
 
-table-requires : tie.Need-table-requires
-table-requires c κs = search needs
-
 slice-aggregate-numerators : tie.Need-slice-aggregate-numerators
 slice-aggregate-numerators c = search needs
 
 numerators-requires : tie.Need-numerators-requires
-numerators-requires c κs = (c .before .before .table .ensures, fine (c .before .before .before), refl)
+numerators-requires c κs = (fine (c .before), refl)
 
 reported-requires : tie.Need-reported-requires
 reported-requires c κs = search needs
@@ -77,7 +74,6 @@ write-all-requires c κs =
     let n = formed c in
     let o = accepted n in
     let r = room o in (
-      n .before .before .before .table .ensures,
       points-at (rq (begun o)) _ _ _ (fine o) (n .numerators .ensures .0) (counted c .degree .ensures) (r .is) (r .most),
       r .enough,
     )
@@ -105,7 +101,6 @@ compose-spec =
     (tie.spec
     judge-requires
     returns
-    table-requires
     slice-aggregate-numerators
     numerators-requires
     reported-requires

@@ -9,11 +9,11 @@ use Rattle.compose.proofs.write_all.Statement.{statement}
 use Rattle.compose.proofs.write_all.Tie as tie
 
 abbrev Inv-loop : tie.InvT-loop
-Inv-loop table sums count r high₀ low₀ points₀ R₀ high low points R =
+Inv-loop sums count r high₀ low₀ points₀ R₀ high low points R =
     (R ≤ count) × Wrote sums (count - 1) r R (arrays high₀ low₀ points₀) (arrays high low points)
 
 abbrev μ-loop : tie.MeasureT-loop
-μ-loop table sums count r high₀ low₀ points₀ R₀ high low points R = count - R
+μ-loop sums count r high₀ low₀ points₀ R₀ high low points R = count - R
 
 -- the arrays as they were lent
 abbrev lent : tie.Start Inv-loop μ-loop → Arrays
@@ -26,7 +26,7 @@ write-place-requires : tie.Need-write-place-requires Inv-loop μ-loop
 write-place-requires c κs =
     let a = c .before .before .before .before in
     let s = a .before .before in
-    (s .pre .0, s .pre .1, omega arith, still-enough _ _ _ _ (lent s) (s .pre .2) _ _ (a .loop .inv .1) (omega arith))
+    (s .pre .0, omega arith, still-enough _ _ _ _ (lent s) (s .pre .1) _ _ (a .loop .inv .1) (omega arith))
 
 add-R : tie.Need-add-R Inv-loop μ-loop
 add-R c = omega arith
@@ -39,12 +39,12 @@ loop-again c =
     let w = c .before .before .before .before in
     let a = w .before .before .before .before .before in
     let s = a .before .before in
-    (omega arith, wrote-more _ _ _ _ (lent s) (s .pre .2) _ _ (a .loop .inv .1) (omega arith) _ (w .write-place .ensures))
+    (omega arith, wrote-more _ _ _ _ (lent s) (s .pre .1) _ _ (a .loop .inv .1) (omega arith) _ (w .write-place .ensures))
 
 -- at the end all places are written
 ended : (c : tie.After-loop Inv-loop μ-loop)
     → SameLengths (lent (c .before .before .before)) (arrays (c .before .loop .high) (c .before .loop .low) (c .before .loop .points))
-ended c = let s = c .before .before .before in same-lengths _ _ _ _ (lent s) (s .pre .2) _ _ (c .before .loop .inv .1) (c .before .loop .inv .0)
+ended c = let s = c .before .before .before in same-lengths _ _ _ _ (lent s) (s .pre .1) _ _ (c .before .loop .inv .1) (c .before .loop .inv .0)
 
 same-length : tie.Need-same-length Inv-loop μ-loop
 same-length c = ended c .high

@@ -24,7 +24,7 @@ whole-number c = words-worth _ _ _ (c .joined .ensures .0) (c .joined .ensures .
 joined-requires : tie.Need-joined-requires
 joined-requires c κs =
     let p = c .before .pre in
-    record { here = let l = p .1 .long in omega arith; small = p .1 .small }
+    record { here = let l = p .0 .long in omega arith; small = p .0 .small }
 
 put-high-requires : tie.Need-put-high-requires
 put-high-requires c κs = search needs
@@ -39,12 +39,10 @@ rounded-requires : tie.Need-rounded-requires
 rounded-requires c κs =
     let j = joining c in
     let s = j .before .before in
-    let p = s .pre .1 in
-    let row = p .row in (
-      s .pre .0,
-      subst (λ n. PointAt n (s .args .count - 1) (s .args .r) (s .args .R)) (sym (whole-number j))
-          (record { row = omega arith; here = omega arith; few = p .few; within = p .within _ (s .pre .2) }),
-    )
+    let p = s .pre .0 in
+    let row = p .row in
+    subst (λ n. PointAt n (s .args .count - 1) (s .args .r) (s .args .R)) (sym (whole-number j))
+    (record { row = omega arith; here = omega arith; few = p .few; within = p .within _ (s .pre .1) })
 
 put-point-requires : tie.Need-put-point-requires
 put-point-requires c κs = search needs

@@ -8,10 +8,10 @@ use Rattle.files.proofs.call.Statement.{statement}
 use Rattle.files.proofs.call.Tie as tie
 
 abbrev Inv-loop : tie.InvT-loop
-Inv-loop word name₀ i₀ name i = (length name ≡ length name₀) × (i ≤ length name)
+Inv-loop word name₀ at end₀ i₀ name end i = (length name ≡ length name₀) × (end ≤ length name)
 
 abbrev μ-loop : tie.MeasureT-loop
-μ-loop word name₀ i₀ name i = length word - i
+μ-loop word name₀ at end₀ i₀ name end i = length word - i
 
 loop-holds : tie.Need-loop-holds Inv-loop μ-loop
 loop-holds c = (refl, omega arith)
@@ -20,13 +20,16 @@ same-length : tie.Need-same-length Inv-loop μ-loop
 same-length c = omega arith
 
 returns : tie.Need-returns Inv-loop μ-loop
-returns c = (omega arith, sym (length-take-le _ _ (omega arith)))
+returns c = ((omega arith, sym (length-take-le _ _ (omega arith))), omega arith)
 
 shared-slice-read-name : tie.Need-shared-slice-read-name Inv-loop μ-loop
 shared-slice-read-name c = omega arith
 
 slice-write-name : tie.Need-slice-write-name Inv-loop μ-loop
 slice-write-name c = omega arith
+
+add-end : tie.Need-add-end Inv-loop μ-loop
+add-end c = omega arith
 
 add-i : tie.Need-add-i Inv-loop μ-loop
 add-i c = omega arith
@@ -41,7 +44,7 @@ same-length-2 : tie.Need-same-length-2 Inv-loop μ-loop
 same-length-2 c = omega arith
 
 returns-2 : tie.Need-returns-2 Inv-loop μ-loop
-returns-2 c = (omega arith, sym (length-take-le _ _ (omega arith)))
+returns-2 c = ((omega arith, sym (length-take-le _ _ (omega arith))), omega arith)
 
 pub call-spec : {M : Type 1} → statement M
 call-spec =
@@ -54,6 +57,7 @@ call-spec =
     returns
     shared-slice-read-name
     slice-write-name
+    add-end
     add-i
     loop-less
     loop-again

@@ -12,6 +12,8 @@ use Rattle.request.specs.Request.{Request}
 use Rattle.request.specs.Cascade.{first, decided}
 use Rattle.request.specs.Refusal.{notKind, notDegree, notSurface, notPath, accepted, refusals, answer}
 use Rattle.request.proofs.Cascade.{here, past}
+use Rattle.judge.specs.Places.{numberTests}
+use Rattle.judge.proofs.Numbers.{numbers-last}
 use Rattle.judge.proofs.judge.Statement.{statement}
 use Rattle.judge.proofs.judge.Tie as tie
 
@@ -156,14 +158,23 @@ returns-6 c =
     let b = c .before .before in
     c .refusal6 .ensures ∙ sym (past5 (b .before) ∙ here _ _ _ (sym (b .not-room .ensures) ∙ c .before .if6 .taken))
 
+balanced-requires : tie.Need-balanced-requires
+balanced-requires c κs = degrees (known (c .before .before .before .before) .before .before .before)
+
+acceptance-requires : tie.Need-acceptance-requires
+acceptance-requires c κs = degrees (known (c .before .before .before .before .before) .before .before .before)
+
 judge-numbers-requires : tie.Need-judge-numbers-requires
-judge-numbers-requires c κs =
-    let e = known (c .before .before .before .before) .before .before .before in
-    (kind (e .before .before), degrees e)
+judge-numbers-requires c κs = c .before .balanced .ensures .1
 
 returns-7 : tie.Need-returns-7
-unfolding answer refusals
-returns-7 c = c .judge-numbers .ensures ∙ sym (past6 (c .before))
+unfolding answer
+returns-7 c =
+    let b = c .before .before in
+    let s = start6 (b .before) in
+    c .judge-numbers .ensures ∙ ap (λ a. decided (first (numberTests (s .args .surface .now) (s .args .path .now) (b .balanced .result))) a)
+    (c .before .acceptance .ensures)
+    ∙ numbers-last (rq s) _ _ _ (b .balanced .ensures .0) ∙ sym (past6 (b .before))
 
 pub judge-spec : {M : Type 1} → statement M
 judge-spec =
@@ -187,5 +198,7 @@ judge-spec =
     not-room-requires
     refusal-requires-6
     returns-6
+    balanced-requires
+    acceptance-requires
     judge-numbers-requires
     returns-7)

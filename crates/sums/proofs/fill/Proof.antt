@@ -6,6 +6,7 @@ use native.Mathlib.Omega.{arith}
 use lib.ListN.{length}
 use borrow.Author.Count.{below-none, below-more}
 use borrow.Author.Needs.{needs}
+use Rattle.pascal.specs.Entry.{earlyRow}
 use Rattle.pascal.proofs.Entries.{entry-in, entry-bound}
 use Rattle.request.proofs.Forms.{small}
 use Rattle.sums.specs.Filled.{PointAt}
@@ -14,10 +15,10 @@ use Rattle.sums.proofs.fill.Statement.{statement}
 use Rattle.sums.proofs.fill.Tie as tie
 
 abbrev Inv-loop : tie.InvT-loop
-Inv-loop table head path t₀ n c₀ t c = (c ≤ n + 1) × (length t ≡ 40) × ((d : ℕ) → d < c → PointAt head path t d)
+Inv-loop head path t₀ n c₀ t c = (c ≤ n + 1) × (length t ≡ 40) × ((d : ℕ) → d < c → PointAt head path t d)
 
 abbrev μ-loop : tie.MeasureT-loop
-μ-loop table head path t₀ n c₀ t c = n + 1 - c
+μ-loop head path t₀ n c₀ t c = n + 1 - c
 
 abbrev first : tie.In-loop Inv-loop μ-loop → tie.Start Inv-loop μ-loop
 first i = i .before .before .before
@@ -26,7 +27,7 @@ cast-n : tie.Need-cast-n Inv-loop μ-loop
 cast-n c = search needs
 
 loop-holds : tie.Need-loop-holds Inv-loop μ-loop
-loop-holds c = (omega arith, c .before .pre .3, below-none _)
+loop-holds c = (omega arith, c .before .pre .2, below-none _)
 
 numbers-requires : tie.Need-numbers-requires Inv-loop μ-loop
 numbers-requires c κs = search needs
@@ -34,7 +35,7 @@ numbers-requires c κs = search needs
 mul-path-size-at : tie.Need-mul-path-size-at Inv-loop μ-loop
 mul-path-size-at c =
     let i = c .before in
-    let s = small _ (first i .pre .1) .N-most in
+    let s = small _ (first i .pre .0) .N-most in
     let m : i .before .loop .c ≤ 9 = omega arith in
     record { fits = omega (arith, mul-le-mul (c .numbers .ensures .1) m) }
 
@@ -42,19 +43,20 @@ path-size-at-requires : tie.Need-path-size-at-requires Inv-loop μ-loop
 path-size-at-requires c κs = search needs
 
 beside-requires : tie.Need-beside-requires Inv-loop μ-loop
-beside-requires c κs = let s = small _ (first (c .before .before) .pre .1) .N-most in (c .before .numbers .ensures .1, omega arith)
+beside-requires c κs = let s = small _ (first (c .before .before) .pre .0) .N-most in (c .before .numbers .ensures .1, omega arith)
 
-binomial-requires : tie.Need-binomial-requires Inv-loop μ-loop
-binomial-requires c κs = first (c .before .before .before .before) .pre .0
+weight-requires : tie.Need-weight-requires Inv-loop μ-loop
+weight-requires c κs = search needs
 
 store-term-requires : tie.Need-store-term-requires Inv-loop μ-loop
 store-term-requires c κs =
     let i = c .before .before .before .before .before in
     let a = first i in
-    let s = small _ (a .pre .1) .N-most in
-    let g = a .pre .2 .numbers in (
+    let s = small _ (a .pre .0) .N-most in
+    let g = a .pre .1 .numbers in (
       omega arith,
-      omega (arith, entry-bound (a .args .head .N) (i .before .loop .c), c .binomial .ensures),
+      omega arith,
+      omega (arith, entry-bound earlyRow (a .args .head .N) (i .before .loop .c) (omega arith), c .weight .ensures),
       path-most (a .args .path .now) g (c .before .before .before .before .numbers .result * i .before .loop .c) _
           (c .before .before .before .path-size-at .ensures),
       beside-most (a .args .path .now) g (c .before .before .before .before .numbers .result)
@@ -62,7 +64,7 @@ store-term-requires c κs =
     )
 
 add-c : tie.Need-add-c Inv-loop μ-loop
-add-c c = let s = small _ (first (c .before .before .before .before .before .before) .pre .1) .N-most in omega arith
+add-c c = let s = small _ (first (c .before .before .before .before .before .before) .pre .0) .N-most in omega arith
 
 loop-less : tie.Need-loop-less Inv-loop μ-loop
 loop-less c = omega arith
@@ -72,17 +74,17 @@ loop-again c =
     let i = c .before .before .before .before .before .before in
     let a = first i in
     let l = i .before in
-    let s = small _ (a .pre .1) .N-most in
+    let s = small _ (a .pre .0) .N-most in
     let v = l .loop .inv in
     let e = c .store-term .ensures in
     let b = c .before in
-    let w = b .binomial .ensures ∙ entry-in (a .args .head .N) (l .loop .c) (omega arith) in (
+    let w = b .weight .ensures ∙ entry-in earlyRow (a .args .head .N) (l .loop .c) (omega arith) in (
       omega arith,
       rw e (still-long (a .args .head) (a .args .path .now) (l .loop .t) (l .loop .c) (omega arith) (v .1) _ _ _),
       rw e
           (below-more (PointAt (a .args .head) (a .args .path .now) _) (l .loop .c)
           (λ d m. still (a .args .head) (a .args .path .now) (l .loop .t) (l .loop .c) (omega arith) (v .1) _ _ _ d m (v .2 d m))
-          (here (a .args .head) (a .args .path .now) (l .loop .t) (l .loop .c) (omega arith) (v .1) _ _ _ w (a .pre .2 .numbers) _
+          (here (a .args .head) (a .args .path .now) (l .loop .t) (l .loop .c) (omega arith) (v .1) _ _ _ w (a .pre .1 .numbers) _
           (b .before .before .before .before .numbers .ensures .0)
           (b .before .before .before .path-size-at .ensures) (b .before .before .beside .ensures))),
     )
@@ -102,7 +104,7 @@ fill-spec =
     mul-path-size-at
     path-size-at-requires
     beside-requires
-    binomial-requires
+    weight-requires
     store-term-requires
     add-c
     loop-less

@@ -22,7 +22,7 @@ travel-requires c κs = search needs
 settle-requires : tie.Need-settle-requires
 settle-requires c κs =
     let s = c .before .before .before .before in
-    first-asks (rq s) (s .pre .1) _ (s .pre .2) (c .travel .result .0) (rw (c .travel .ensures) (travels (s .args .surface .now) (s .pre .1 .travels) 0))
+    first-asks (rq s) (s .pre .0) _ (s .pre .1) (c .travel .result .0) (rw (c .travel .ensures) (travels (s .args .surface .now) (s .pre .0 .travels) 0))
 
 same-length : tie.Need-same-length
 same-length c = search needs
@@ -32,7 +32,7 @@ returns c =
     let v = c .before .before in
     let i = v .before .before in
     let s = i .before .before in
-    first-leaves (rq s) (s .pre .1) (sym (i .before .degree .ensures) ∙ i .if1 .taken) _ (s .pre .2) _ (v .travel .ensures) _ (c .before .settle .ensures)
+    first-leaves (rq s) (s .pre .0) (sym (i .before .degree .ensures) ∙ i .if1 .taken) _ (s .pre .1) _ (v .travel .ensures) _ (c .before .settle .ensures)
 
 cast-count : tie.Need-cast-count
 cast-count c = search needs
@@ -54,9 +54,9 @@ rectangle-requires c κs =
     let f = c .before .before .before .before .before in
     let d = f .before .before .before .before in
     let s = d .before in
-    let x = s .pre .1 in (
+    let x = s .pre .0 in (
       let o = f .before .before .before .if1 .left in omega arith,
-      row-asks (rq s) x _ (f .fill .ensures) _ (d .degree .ensures) _ (s .pre .2),
+      row-asks (rq s) x _ (f .fill .ensures) _ (d .degree .ensures) _ (s .pre .1),
       inside (rq s) x _ (f .fill .ensures) _ (d .degree .ensures),
       x .travels,
     )
@@ -71,7 +71,7 @@ returns-2 c =
     let f = b .before in
     let d = f .before .before .before .before in
     let s = d .before in
-    row-leaves (rq s) (s .pre .1) _ (f .fill .ensures) _ (d .degree .ensures) _ (s .pre .2) (flat-form _ (sym (b .flat .ensures) ∙ i .if2 .taken)) _ _
+    row-leaves (rq s) (s .pre .0) _ (f .fill .ensures) _ (d .degree .ensures) _ (s .pre .1) (flat-form _ (sym (b .flat .ensures) ∙ i .if2 .taken)) _ _
     (c .before .rectangle .ensures)
 
 triangle-requires : tie.Need-triangle-requires
@@ -81,11 +81,11 @@ triangle-requires c κs =
     let f = b .before in
     let d = f .before .before .before .before in
     let s = d .before in
-    let x = s .pre .1 in
+    let x = s .pre .0 in
     let o = or-none _ _ (sym (b .flat .ensures) ∙ i .if2 .left) in
     let some : 0 < d .degree .result = let o = f .before .before .before .if1 .left in omega arith in (
       some,
-      triangle-asks (rq s) x _ (f .fill .ensures) _ (d .degree .ensures) _ (s .pre .2) some (other-form _ 1 (o .0)) (other-form _ 2 (o .1)),
+      triangle-asks (rq s) x _ (f .fill .ensures) _ (d .degree .ensures) _ (s .pre .1) some (other-form _ 1 (o .0)) (other-form _ 2 (o .1)),
       even (rq s) x _ (f .fill .ensures) _ (d .degree .ensures) (other-form _ 1 (o .0)) (other-form _ 2 (o .1)),
       x .travels,
     )
@@ -102,7 +102,7 @@ returns-3 c =
     let s = d .before in
     let o = or-none _ _ (sym (b .flat .ensures) ∙ i .if2 .left) in
     let some : 0 < d .degree .result = let o = f .before .before .before .if1 .left in omega arith in
-    triangle-leaves (rq s) (s .pre .1) _ (f .fill .ensures) _ (d .degree .ensures) _ (s .pre .2) some (other-form _ 1 (o .0)) (other-form _ 2 (o .1))
+    triangle-leaves (rq s) (s .pre .0) _ (f .fill .ensures) _ (d .degree .ensures) _ (s .pre .1) some (other-form _ 1 (o .0)) (other-form _ 2 (o .1))
     _ _ (c .before .triangle .ensures)
 
 pub numerators-spec : {M : Type 1} → statement M

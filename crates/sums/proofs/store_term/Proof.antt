@@ -38,7 +38,7 @@ returns c =
       c .before .before .before .before .store2 .ensures,
       c .before .before .before .before .before .before .store .ensures,
     )
-    (four-stores (a .t .now) (4 * a .c) (a .c) (a .weight) (a .a) (a .b))
+    (four-stores (a .t .now) (4 * a .c) (a .key) (a .weight) (a .a) (a .b))
 
 pub store-term-spec : {M : Type 1} → statement M
 store-term-spec =

@@ -1,12 +1,12 @@
--- `two_words::rounded` meets its contract: the fraction is that of a numerator of 64 bits over 2d, cut off. Assumes nothing.
+-- `two_words::rounded` meets its contract: the point of the size over 2d, on the number's side of zero. Assumes nothing.
 use mathlib.Core.Path.{_≡_, sym, _∙_, ap}
-use Prim.Native.Nat.{_*_, _/_, _^_}
+use Prim.Native.Nat.{ℕ, _*_, _/_, _^_}
 use native.Mathlib.Omega.{arith}
-use lib.IntN.{natAbs}
+use lib.IntN.{pos, natAbs}
 use borrow.Author.Needs.{needs}
 use Rattle.whole.specs.Round.{nearest, onSideOf}
 use Rattle.two_words.specs.Words.{twoWords}
-use Rattle.two_words.proofs.Dividing.{reduced, same-side, positive, doublable, doubled-small}
+use Rattle.two_words.proofs.Dividing.{nearest-size, size-fits, reduced, same-side, positive, doublable, doubled-small}
 use Rattle.two_words.proofs.rounded.Statement.{statement}
 use Rattle.two_words.proofs.rounded.Tie as tie
 
@@ -24,8 +24,8 @@ twice : (c : tie.After-doubled)
     → c .doubled .result ≡ 2 * natAbs (twoWords (c .before .before .args .n .high .0) (c .before .before .args .n .low)) / 1024 ^ c .before .before .args .r
 twice c = c .doubled .ensures ∙ ap (λ x. 2 * x / 1024 ^ c .before .before .args .r) (c .before .size-of .ensures .0)
 
-on-side-requires : tie.Need-on-side-requires
-on-side-requires c κs =
+plus-requires : tie.Need-plus-requires
+plus-requires c κs =
     let a = c .before .before .args in
     rw (twice c) (omega (arith, doubled-small (a .r) (a .d) (twoWords (a .n .high .0) (a .n .low)) (c .before .before .pre)))
 
@@ -35,16 +35,32 @@ mul-nearest c = search needs
 nearest-requires : tie.Need-nearest-requires
 nearest-requires c κs = search needs
 
+size-requires : tie.Need-size-requires
+size-requires c κs = search needs
+
+-- what is rounded is that size
+point : (c : tie.After-nearest) (e : ℕ)
+    → c .nearest .result .0 ≡ nearest (c .before .plus .result .0) e
+    → c .nearest .result .0 ≡ nearest (pos (c .before .before .doubled .result)) e
+point c e h = h ∙ ap (λ z. nearest z e) (c .before .plus .ensures)
+
+on-side-requires : tie.Need-on-side-requires
+on-side-requires c κs =
+    let t = c .before .before .before in
+    rw (c .size .ensures .0) (size-fits _ _ (point (c .before) _ (c .before .nearest .ensures) ∙ nearest-size (t .doubled .result) _) (c .size .ensures .1))
+
 returns : tie.Need-returns
 returns c =
-    let t = c .before .before in
-    let s = t .before in
-    let a = s .before .args in
+    let s = c .before in
+    let t = s .before .before .before in
+    let a = t .before .before .args in
     let n = twoWords (a .n .high .0) (a .n .low) in
-    c .nearest .ensures
-    ∙ ap (λ z. nearest z (2 * a .d)) (c .before .on-side .ensures ∙ sym (same-side (a .n .high .0) (a .n .low) _ (s .size-of .ensures .2)) ∙ ap
-    (onSideOf n) (twice t))
-    ∙ reduced n (a .d) (1024 ^ a .r) (s .before .pre .some) (positive (a .r))
+    let x : s .size .result ≡ natAbs (nearest (pos (2 * natAbs n / 1024 ^ a .r)) (2 * a .d)) =
+    s .size .ensures .0 ∙ ap natAbs (point (s .before) _ (s .before .nearest .ensures) ∙ ap (λ y. nearest (pos y) (2 * a .d)) (twice t)) in
+    c .on-side .ensures
+    ∙ sym (same-side (a .n .high .0) (a .n .low) _ (t .before .size-of .ensures .2))
+    ∙ ap (onSideOf n) x
+    ∙ reduced n (a .d) (1024 ^ a .r) (t .before .before .pre .some) (positive (a .r))
 
 pub rounded-spec : {M : Type 1} → statement M
 rounded-spec =
@@ -52,7 +68,9 @@ rounded-spec =
     (tie.spec
     size-of-requires
     doubled-requires
-    on-side-requires
+    plus-requires
     mul-nearest
     nearest-requires
+    size-requires
+    on-side-requires
     returns)

@@ -1,0 +1,2 @@
+-- Laws of the words of a command line. Assumes nothing.
+pub mod Words

@@ -1,0 +1,2 @@
+-- The words of a command line. Assumes nothing.
+pub mod Args

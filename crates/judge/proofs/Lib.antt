@@ -1,0 +1,2 @@
+-- The tests of the numbers, and a ride's table. Assumes nothing.
+pub mod Numbers

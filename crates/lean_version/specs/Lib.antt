@@ -1,0 +1,2 @@
+-- The version of the C functions. Assumes nothing.
+pub mod Version

@@ -1,0 +1,2 @@
+-- Lists by their places. Assumes nothing.
+pub mod Lists

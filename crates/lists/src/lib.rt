@@ -1,0 +1,1 @@
+// Lists by their places: definitions, no code.

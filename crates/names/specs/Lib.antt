@@ -1,0 +1,2 @@
+-- The refusals' names. Assumes nothing.
+pub mod Names

@@ -1,0 +1,387 @@
+/* Random calls of every C function, each lent block just as large as is said: `calls heap SEED COUNT` takes blocks from the heap, for the
+ * sanitizers and valgrind; `calls pages SEED COUNT` lays each against a page that may not be touched, now at its end, now at its
+ * beginning. Checks what the headers say of every call: what is returned, what stays, and that the counts and numbers are legal. */
+#define _DEFAULT_SOURCE
+#include "lean.h"
+#include "lean_door.h"
+
+#include <stdio.h>
+#include <stdlib.h>
+#include <string.h>
+#include <sys/mman.h>
+#include <unistd.h>
+
+enum { BLOCKS = 8, FILL = 0xa5 };
+
+static uint64_t state;
+
+/* splitmix64 */
+static uint64_t drawn(void)
+{
+    uint64_t z = state += 0x9e3779b97f4a7c15u;
+    z = (z ^ (z >> 30)) * 0xbf58476d1ce4e5b9u;
+    z = (z ^ (z >> 27)) * 0x94d049bb133111ebu;
+    return z ^ (z >> 31);
+}
+
+static size_t below(size_t end)
+{
+    return (size_t)(drawn() % end);
+}
+
+/* ---- blocks */
+
+static int pages;
+static size_t page;
+static unsigned char *room[BLOCKS];
+static void *lent[BLOCKS];
+static size_t taken;
+
+static void *block(size_t size)
+{
+    unsigned char *at;
+    if (pages) {
+        /* between two pages that may not be touched; the end of an array is aligned as its beginning is */
+        at = room[taken] + page + (below(2) == 0 ? page - size : 0);
+    } else {
+        at = (unsigned char *)malloc(size == 0 ? 1 : size);
+        if (at == NULL) {
+            exit(2);
+        }
+    }
+    memset(at, FILL, size);
+    lent[taken++] = at;
+    return at;
+}
+
+static void give_back(void)
+{
+    while (taken > 0) {
+        taken--;
+        if (!pages) {
+            free(lent[taken]);
+        }
+    }
+}
+
+static void wrong(const char *what, unsigned long call)
+{
+    printf("%s, call %lu\n", what, call);
+    exit(1);
+}
+
+static int filled(const void *from, size_t bytes)
+{
+    const unsigned char *at = (const unsigned char *)from;
+    size_t k;
+    for (k = 0; k < bytes; k++) {
+        if (at[k] != FILL) {
+            return 0;
+        }
+    }
+    return 1;
+}
+
+/* ---- a number near a bound or anywhere */
+
+static int32_t number(int32_t least, int32_t most)
+{
+    switch (below(16)) {
+    case 0:
+        return least;
+    case 1:
+        return most;
+    case 2:
+        return below(64) == 0 ? least - 1 : least;
+    case 3:
+        return below(64) == 0 ? most + 1 : most;
+    default:
+        return least + (int32_t)below((size_t)(most - least) + 1);
+    }
+}
+
+static const uint32_t most_n = 6;
+
+/* the counts that a form and its degrees ask for */
+static size_t values_of(uint32_t form, uint32_t first, uint32_t second)
+{
+    return form == 1 ? first + 1u : form == 2 ? (first + 1u) * (second + 1u) : (first + 1u) * (first + 2u) / 2;
+}
+
+static void draw_path(int32_t *path, uint32_t form, size_t count)
+{
+    size_t k;
+    for (k = 0; k < count; k++) {
+        path[k] = number(0, 1024);
+    }
+    if (form == 3) {
+        for (k = 0; k + 2 < count; k += 3) {
+            path[k + 1] = number(0, 1024 - (path[k] > 1024 ? 1024 : path[k] < 0 ? 0 : path[k]));
+            path[k + 2] = 1024 - path[k] - path[k + 1];
+        }
+    }
+}
+
+struct asked {
+    uint32_t form, first, second, n;
+    size_t values, numbers;
+};
+
+static struct asked draw_head(void)
+{
+    struct asked a;
+    a.form = 1 + (uint32_t)below(3);
+    a.first = (uint32_t)below(5);
+    a.second = a.form == 2 ? (uint32_t)below(5 - a.first) : 0;
+    a.n = (uint32_t)below(most_n + 1);
+    a.values = values_of(a.form, a.first, a.second);
+    a.numbers = (a.form == 3 ? 3 : a.form == 2 ? 2 : 1) * (size_t)(a.n + 1);
+    if (below(16) == 0) {
+        switch (below(5)) {
+        case 0:
+            a.form = (uint32_t)below(6);
+            break;
+        case 1:
+            a.first = (uint32_t)below(256);
+            break;
+        case 2:
+            a.second = (uint32_t)below(256);
+            break;
+        case 3:
+            a.n = (uint32_t)below(256);
+            break;
+        default:
+            a.values = below(40);
+        }
+    }
+    return a;
+}
+
+/* ---- the door */
+
+static void put_word(uint8_t *at, uint32_t word)
+{
+    at[0] = (uint8_t)(word & 255);
+    at[1] = (uint8_t)(word >> 8 & 255);
+}
+
+static unsigned long door_accepted, compose_accepted, tick_accepted, card_accepted;
+
+static void at_the_door(unsigned long call)
+{
+    uint8_t record[256];
+    size_t length;
+    size_t space = below(4) == 0 ? below(LEAN_REPLY_ROOM + 8) : LEAN_REPLY_ROOM;
+    uint8_t *request;
+    uint8_t *reply;
+    size_t answered;
+    size_t k;
+
+    if (below(8) == 0) {
+        length = below(130);
+        for (k = 0; k < length; k++) {
+            record[k] = (uint8_t)drawn();
+        }
+    } else {
+        const struct asked a = draw_head();
+        const int aged = below(2) == 0;
+        int32_t path[64];
+        uint8_t *at = record + (aged ? LEAN_AGED_HEAD : LEAN_HEAD);
+        put_word(record + LEAN_AT_KIND, aged ? LEAN_AGED_REQUEST : LEAN_REQUEST);
+        record[LEAN_AT_FORM] = (uint8_t)a.form;
+        record[LEAN_AT_FIRST] = (uint8_t)a.first;
+        record[LEAN_AT_SECOND] = (uint8_t)a.second;
+        record[LEAN_AT_N] = (uint8_t)a.n;
+        if (aged) {
+            put_word(record + LEAN_AT_AGE, (uint32_t)below(below(8) == 0 ? 65536 : 251));
+        }
+        for (k = 0; k < a.values; k++, at += 2) {
+            put_word(at, (uint32_t)number(-4096, 4096));
+        }
+        draw_path(path, a.form, a.numbers);
+        for (k = 0; k < a.numbers; k++, at += 2) {
+            put_word(at, (uint32_t)path[k]);
+        }
+        length = (size_t)(at - record);
+        put_word(record + LEAN_AT_LENGTH, (uint32_t)length);
+        if (below(32) == 0) {
+            length = below(length + 1);
+        }
+    }
+    request = (uint8_t *)block(length);
+    memcpy(request, record, length);
+    reply = (uint8_t *)block(space);
+    answered = door_reply(request, length, reply, space);
+    if (memcmp(request, record, length) != 0) {
+        wrong("the request was written", call);
+    }
+    if (space < LEAN_REPLY_ROOM) {
+        if (answered != 0 || !filled(reply, space)) {
+            wrong("written without room", call);
+        }
+    } else {
+        const uint8_t said = reply[LEAN_AT_NUMBER];
+        const size_t count = reply[LEAN_AT_COUNT];
+        if (answered != LEAN_HEAD + 2 * count || count > LEAN_MOST_POINTS || (said == LEAN_ACCEPTED) != (count > 0)) {
+            wrong("a reply of another length", call);
+        }
+        if (said > LEAN_STALE || (said >= 3 && said <= 5)) {
+            wrong("a number that the door never gives", call);
+        }
+        if (!filled(reply + answered, space - answered)) {
+            wrong("written beyond the reply", call);
+        }
+        door_accepted += said == LEAN_ACCEPTED;
+    }
+    give_back();
+}
+
+/* ---- on numbers */
+
+static void composed(unsigned long call)
+{
+    const struct asked a = draw_head();
+    const uint16_t age = (uint16_t)below(below(8) == 0 ? 65536 : 251);
+    const size_t places = below(4) == 0 ? below(LEAN_MOST_PLACES + 2) : LEAN_MOST_PLACES;
+    const size_t words_length = below(8) == 0 ? below(6) : LEAN_WORDS;
+    int32_t *surface = (int32_t *)block(a.values * sizeof(int32_t));
+    int32_t *path = (int32_t *)block(a.numbers * sizeof(int32_t));
+    int64_t *high = (int64_t *)block(places * sizeof(int64_t));
+    uint64_t *low = (uint64_t *)block(places * sizeof(uint64_t));
+    int32_t *points = (int32_t *)block(places * sizeof(int32_t));
+    uint64_t *words = (uint64_t *)block(words_length * sizeof(uint64_t));
+    size_t count = 0;
+    size_t k;
+    uint32_t code;
+
+    for (k = 0; k < a.values; k++) {
+        surface[k] = number(-4096, 4096);
+    }
+    draw_path(path, a.form, a.numbers);
+    code = lean_compose(a.form, a.first, a.second, a.n, age, surface, a.values, path, a.numbers, high, places, low, places, points,
+                        places, words, words_length);
+    if (code != (words_length < LEAN_WORDS ? 1u : 0u)) {
+        wrong("another code of the composer", call);
+    }
+    if (code == 0) {
+        count = (size_t)words[2];
+        if ((words[0] == 0) != (count > 0) || count > places || !filled(words + LEAN_WORDS, (words_length - LEAN_WORDS) * sizeof *words)) {
+            wrong("the composer's words", call);
+        }
+        compose_accepted += words[0] == 0;
+    } else if (!filled(words, words_length * sizeof *words)) {
+        wrong("written without room", call);
+    }
+    if (!filled(high + count, (places - count) * sizeof *high) || !filled(low + count, (places - count) * sizeof *low) ||
+        !filled(points + count, (places - count) * sizeof *points)) {
+        wrong("written beyond the count", call);
+    }
+    give_back();
+}
+
+static void ticked(unsigned long call)
+{
+    const size_t length = below(8) == 0 ? below(LEAN_TICK_POINTS + 3) : 1 + below(LEAN_TICK_POINTS);
+    const size_t words_length = below(8) == 0 ? below(6) : LEAN_TICK_WORDS;
+    int32_t *points = (int32_t *)block(length * sizeof(int32_t));
+    int64_t *words = (int64_t *)block(words_length * sizeof(int64_t));
+    uint32_t code;
+    size_t k;
+
+    for (k = 0; k < length; k++) {
+        points[k] = number(-4096, 4096);
+    }
+    code = lean_tick(points, length, (uint32_t)number(0, LEAN_TICK_END), words, words_length);
+    if (code != (words_length < LEAN_TICK_WORDS ? 1u : 0u)) {
+        wrong("another code of the reading", call);
+    }
+    if (code == 0) {
+        if (words[2] > 4096 * (int64_t)LEAN_TICK_PARTS || words[2] < -4096 * (int64_t)LEAN_TICK_PARTS ||
+            !filled(words + LEAN_TICK_WORDS, (words_length - LEAN_TICK_WORDS) * sizeof *words)) {
+            wrong("the reading's words", call);
+        }
+        tick_accepted += words[0] == 0;
+    } else if (!filled(words, words_length * sizeof *words)) {
+        wrong("written without room", call);
+    }
+    give_back();
+}
+
+static void carded(unsigned long call)
+{
+    const uint32_t m = (uint32_t)below(below(16) == 0 ? 7 : 5);
+    const size_t length = below(16) == 0 ? below(8) : m + 1u;
+    const size_t places = below(8) == 0 ? below(8) : LEAN_CARD_NUMERATORS;
+    const size_t words_length = below(8) == 0 ? below(5) : LEAN_CARD_WORDS;
+    const uint32_t line = (uint32_t)below(below(16) == 0 ? 3 : 2);
+    const double first = below(16) == 0 ? (double)drawn() / 3.0 : number(0, 1024);
+    const double second = below(16) == 0 ? -(double)drawn() : number(0, 1024);
+    int32_t *surface = (int32_t *)block(length * sizeof(int32_t));
+    double *numerators = (double *)block(places * sizeof(double));
+    uint64_t *words = (uint64_t *)block(words_length * sizeof(uint64_t));
+    const int fits = places >= LEAN_CARD_NUMERATORS && words_length >= LEAN_CARD_WORDS && line <= LEAN_CARD_LINE;
+    uint32_t code;
+    size_t k;
+
+    for (k = 0; k < length; k++) {
+        surface[k] = number(-4096, 4096);
+    }
+    code = lean_card(m, surface, length, line, first, second, numerators, places, words, words_length);
+    if (code != (fits ? 0u : 1u)) {
+        wrong("another code of the card", call);
+    }
+    if (fits) {
+        if (words[2] > LEAN_CARD_NUMERATORS || !filled(numerators + LEAN_CARD_NUMERATORS, (places - LEAN_CARD_NUMERATORS) * sizeof *numerators) ||
+            !filled(words + LEAN_CARD_WORDS, (words_length - LEAN_CARD_WORDS) * sizeof *words)) {
+            wrong("the card's words", call);
+        }
+        card_accepted += words[0] == 0;
+    } else if (!filled(numerators, places * sizeof *numerators) || !filled(words, words_length * sizeof *words)) {
+        wrong("written where the call is not as it should be", call);
+    }
+    give_back();
+}
+
+int main(int count, char **arguments)
+{
+    unsigned long calls;
+    unsigned long k;
+
+    if (count != 4) {
+        printf("usage: calls heap|pages SEED COUNT\n");
+        return 2;
+    }
+    pages = strcmp(arguments[1], "pages") == 0;
+    state = strtoull(arguments[2], NULL, 10);
+    calls = strtoul(arguments[3], NULL, 10);
+    page = (size_t)sysconf(_SC_PAGESIZE);
+    for (k = 0; pages && k < BLOCKS; k++) {
+        void *at = mmap(NULL, 3 * page, PROT_NONE, MAP_PRIVATE | MAP_ANONYMOUS, -1, 0);
+        if (at == MAP_FAILED || mprotect((char *)at + page, page, PROT_READ | PROT_WRITE) != 0) {
+            return 2;
+        }
+        room[k] = (unsigned char *)at;
+    }
+    for (k = 0; k < calls; k++) {
+        switch (k % 4) {
+        case 0:
+            at_the_door(k);
+            break;
+        case 1:
+            composed(k);
+            break;
+        case 2:
+            ticked(k);
+            break;
+        default:
+            carded(k);
+        }
+    }
+    if (calls >= 1000 && (door_accepted == 0 || compose_accepted == 0 || tick_accepted == 0 || card_accepted == 0)) {
+        printf("some function never accepted\n");
+        return 1;
+    }
+    printf("%lu calls, seed %s, %s: accepted %lu at the door, %lu composed, %lu read, %lu on the card\n", calls, arguments[2],
+           arguments[1], door_accepted, compose_accepted, tick_accepted, card_accepted);
+    return 0;
+}

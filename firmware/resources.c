@@ -1,0 +1,195 @@
+/* What a call takes: the stack, painted before the call and looked through behind it, for the rides that take most, by form, and for each
+ * other C function. Prints the greatest of each function in bytes, and fails where one takes more than is allowed. Under
+ * callgrind each call at the door is one dump, in the order in which they are printed.
+ *   resources stack BYTES     every function
+ *   resources door            the rides at the door alone, a call each
+ */
+#define _XOPEN_SOURCE 700
+#include "lean.h"
+#include "lean_door.h"
+
+#include <stdio.h>
+#include <stdlib.h>
+#include <string.h>
+#include <ucontext.h>
+
+enum { STACK = 1 << 18, PAINT = 0x5a, RIDES = 8 };
+
+struct ride {
+    const char *name;
+    uint32_t form, first, second, n;
+};
+
+/* r = 4 and N = 6 in every form and split of degrees */
+static const struct ride rides[RIDES] = {
+    {"form 1, degree 4", 1, 4, 0, 6},       {"form 2, degrees 4 0", 2, 4, 0, 6}, {"form 2, degrees 3 1", 2, 3, 1, 6},
+    {"form 2, degrees 2 2", 2, 2, 2, 6},    {"form 2, degrees 1 3", 2, 1, 3, 6}, {"form 2, degrees 0 4", 2, 0, 4, 6},
+    {"form 3, degree 4", 3, 4, 0, 6},       {"form 3, degree 3", 3, 3, 0, 6},
+};
+
+static int32_t surface[15];
+static int32_t path[21];
+static size_t values, numbers;
+static uint8_t record[LEAN_MOST_REQUEST];
+static uint8_t reply[LEAN_REPLY_ROOM];
+static int64_t high[LEAN_MOST_PLACES];
+static uint64_t low[LEAN_MOST_PLACES];
+static int32_t points[LEAN_MOST_PLACES];
+static uint64_t words[8];
+static int64_t ticks[LEAN_TICK_WORDS];
+static double numerators[LEAN_CARD_NUMERATORS];
+static size_t length;
+static const struct ride *asked;
+
+static void put_word(uint8_t *at, int32_t word)
+{
+    at[0] = (uint8_t)(word & 255);
+    at[1] = (uint8_t)(word >> 8 & 255);
+}
+
+/* numbers without a pattern within their bounds; every path point of form 3 is balanced */
+static void lay(const struct ride *ride)
+{
+    uint32_t seed = 12345;
+    uint8_t *at = record + LEAN_HEAD;
+    size_t k;
+
+    asked = ride;
+    values = ride->form == 1 ? ride->first + 1u : ride->form == 2 ? (ride->first + 1u) * (ride->second + 1u) : (ride->first + 1u) * (ride->first + 2u) / 2;
+    numbers = (ride->n + 1u) * ride->form;
+    for (k = 0; k < values; k++) {
+        seed = seed * 1664525u + 1013904223u;
+        surface[k] = (int32_t)(seed >> 16) % 4097 * (k % 2 == 0 ? 1 : -1);
+    }
+    for (k = 0; k < numbers; k++) {
+        seed = seed * 1664525u + 1013904223u;
+        path[k] = (int32_t)(seed >> 16) % (ride->form == 3 ? 513 : 1025);
+        if (ride->form == 3 && k % 3 == 2) {
+            path[k] = 1024 - path[k - 1] - path[k - 2];
+        }
+    }
+    length = LEAN_HEAD + 2 * (values + numbers);
+    put_word(record + LEAN_AT_LENGTH, (int32_t)length);
+    put_word(record + LEAN_AT_KIND, LEAN_REQUEST);
+    record[LEAN_AT_FORM] = (uint8_t)ride->form;
+    record[LEAN_AT_FIRST] = (uint8_t)ride->first;
+    record[LEAN_AT_SECOND] = (uint8_t)ride->second;
+    record[LEAN_AT_N] = (uint8_t)ride->n;
+    for (k = 0; k < values; k++, at += 2) {
+        put_word(at, surface[k]);
+    }
+    for (k = 0; k < numbers; k++, at += 2) {
+        put_word(at, path[k]);
+    }
+}
+
+/* ---- the calls */
+
+static void nothing(void)
+{
+}
+
+static void call_door(void)
+{
+    if (door_reply(record, length, reply, sizeof reply) == 0 || reply[LEAN_AT_NUMBER] != LEAN_ACCEPTED) {
+        printf("%s is not accepted at the door\n", asked->name);
+        exit(1);
+    }
+}
+
+static void call_compose(void)
+{
+    if (lean_compose(asked->form, asked->first, asked->second, asked->n, 0, surface, values, path, numbers, high, LEAN_MOST_PLACES, low,
+                     LEAN_MOST_PLACES, points, LEAN_MOST_PLACES, words, LEAN_WORDS) != 0 || words[0] != 0) {
+        printf("%s is not accepted\n", asked->name);
+        exit(1);
+    }
+}
+
+static void call_tick(void)
+{
+    if (lean_tick(points, LEAN_MOST_PLACES, 511, ticks, LEAN_TICK_WORDS) != 0 || ticks[0] != 0) {
+        printf("the net is not read\n");
+        exit(1);
+    }
+}
+
+static void call_card(void)
+{
+    if (lean_card(4, surface, 5, LEAN_CARD_LINE, 3.0, 1000.0, numerators, LEAN_CARD_NUMERATORS, words, LEAN_CARD_WORDS) != 0 || words[0] != 0) {
+        printf("the part is not accepted\n");
+        exit(1);
+    }
+}
+
+/* ---- the stack */
+
+static ucontext_t here, there;
+static unsigned char stack[STACK];
+static void (*called)(void);
+
+static void over(void)
+{
+    called();
+}
+
+static size_t used(void (*call)(void))
+{
+    size_t k = 0;
+
+    /* once before, so that nothing is bound while it is measured */
+    call();
+    memset(stack, PAINT, sizeof stack);
+    if (getcontext(&there) != 0) {
+        exit(2);
+    }
+    there.uc_stack.ss_sp = stack;
+    there.uc_stack.ss_size = sizeof stack;
+    there.uc_link = &here;
+    called = call;
+    makecontext(&there, over, 0);
+    if (swapcontext(&here, &there) != 0) {
+        exit(2);
+    }
+    while (k < sizeof stack && stack[k] == PAINT) {
+        k++;
+    }
+    return sizeof stack - k;
+}
+
+int main(int count, char **arguments)
+{
+    size_t door = 0, compose = 0, most;
+    size_t tick, card;
+    size_t k;
+
+    if (count == 2 && strcmp(arguments[1], "door") == 0) {
+        for (k = 0; k < RIDES; k++) {
+            lay(&rides[k]);
+            call_door();
+            printf("%s\n", rides[k].name);
+        }
+        return 0;
+    }
+    if (count != 3 || strcmp(arguments[1], "stack") != 0) {
+        printf("usage: resources stack BYTES | resources door\n");
+        return 2;
+    }
+    most = strtoul(arguments[2], NULL, 10);
+    for (k = 0; k < RIDES; k++) {
+        size_t here_door, here_compose;
+        const size_t without = used(nothing);
+        lay(&rides[k]);
+        here_door = used(call_door) - without;
+        here_compose = used(call_compose) - without;
+        printf("%s: %zu bytes of stack at the door, %zu on numbers\n", rides[k].name, here_door, here_compose);
+        door = here_door > door ? here_door : door;
+        compose = here_compose > compose ? here_compose : compose;
+    }
+    lay(&rides[0]);
+    call_compose();
+    tick = used(call_tick) - used(nothing);
+    card = used(call_card) - used(nothing);
+    printf("stack, in bytes: door_reply %zu, lean_compose %zu, lean_tick %zu, lean_card %zu; at most %zu\n", door, compose, tick, card, most);
+    return door > most || compose > most || tick > most || card > most;
+}
