@@ -8,8 +8,7 @@
 //! record, one reply record; and a replay asks the door a whole night.
 //!
 //! What tickets ask that have not landed is here too, each in its own module
-//! and with its own tests: patches, the tick, the converter, the card, the
-//! sheet and the salvage.
+//! and with its own tests: patches, the converter, the sheet and the salvage.
 
 pub mod agree;
 pub mod beside;
@@ -37,6 +36,7 @@ pub mod sample;
 pub mod shape;
 pub mod sheet;
 pub mod tick;
+pub mod tick_line;
 pub mod words;
 pub mod xorshift;
 

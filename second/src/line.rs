@@ -5,8 +5,11 @@
 //! count of path numbers and the numbers. After these come, if wanted, the
 //! two rooms, and as the last word, if wanted, the age as a marked word,
 //! `age=251`; an age that the line does not name is 0.
+//!
+//! A line whose first word is `tick` is of another kind (`tick_line`).
 
 use crate::edition::TODAY;
+use crate::tick_line::{Net, TICK};
 use crate::{compose, entries, Answer, Request};
 use std::fmt::Write;
 
@@ -64,12 +67,21 @@ pub fn passed_over(line: &[u8]) -> bool {
     line.first() == Some(&b'#') || line.iter().all(blank)
 }
 
-/// Reads a line, or says what is wrong with it.
-pub fn read(line: &[u8]) -> Result<Asked, String> {
-    if line.len() > LONGEST {
-        return Err(format!("{} bytes, more than {LONGEST}", line.len()));
+/// The answer line to a line of any kind, or what is wrong with it.
+pub fn answer(line: &[u8]) -> Result<String, String> {
+    let mut words = Words::of(line)?;
+    match words.first() {
+        Some(TICK) => {
+            words.words.next();
+            Net::read(&mut words).map(|net| net.answer())
+        }
+        _ => read(line).map(|asked| asked.reply().line()),
     }
-    let mut words = Words::of(line);
+}
+
+/// Reads a request line, or says what is wrong with it.
+pub fn read(line: &[u8]) -> Result<Asked, String> {
+    let mut words = Words::of(line)?;
     let form = words.unsigned("the form")?;
     let first = words.unsigned("the first degree")?;
     let second = words.unsigned("the second degree")?;
@@ -95,19 +107,27 @@ pub fn read(line: &[u8]) -> Result<Asked, String> {
 }
 
 /// The words of a line that are still to be read.
-struct Words<'a> {
+pub struct Words<'a> {
     words: std::vec::IntoIter<&'a [u8]>,
 }
 
 impl<'a> Words<'a> {
-    fn of(line: &'a [u8]) -> Self {
-        let words: Vec<&[u8]> = line.split(blank).filter(|word| !word.is_empty()).collect();
-        Words {
-            words: words.into_iter(),
+    /// The words of a whole line, unless it is too long.
+    fn of(line: &'a [u8]) -> Result<Self, String> {
+        if line.len() > LONGEST {
+            return Err(format!("{} bytes, more than {LONGEST}", line.len()));
         }
+        let words: Vec<&[u8]> = line.split(blank).filter(|word| !word.is_empty()).collect();
+        Ok(Words {
+            words: words.into_iter(),
+        })
     }
 
-    fn left(&self) -> usize {
+    fn first(&self) -> Option<&'a [u8]> {
+        self.words.as_slice().first().copied()
+    }
+
+    pub fn left(&self) -> usize {
         self.words.len()
     }
 
@@ -126,7 +146,7 @@ impl<'a> Words<'a> {
         }
     }
 
-    fn unsigned(&mut self, what: &str) -> Result<u32, String> {
+    pub fn unsigned(&mut self, what: &str) -> Result<u32, String> {
         self.number(what, 0, i64::from(u32::MAX))
             .map(|value| value as u32)
     }
@@ -164,7 +184,7 @@ impl<'a> Words<'a> {
     }
 
     /// A count and as many values.
-    fn list(&mut self, what: &str) -> Result<Vec<i32>, String> {
+    pub fn list(&mut self, what: &str) -> Result<Vec<i32>, String> {
         let count = self.small(&format!("the count of {what}s"))?;
         (0..count)
             .map(|at| self.signed(&format!("{what} {at}")))
@@ -280,7 +300,7 @@ impl Reply {
 }
 
 /// Puts each number after the line, with one space before it.
-fn append<T: std::fmt::Display>(line: &mut String, numbers: &[T]) {
+pub fn append<T: std::fmt::Display>(line: &mut String, numbers: &[T]) {
     for number in numbers {
         write!(line, " {number}").expect("a string takes every word");
     }

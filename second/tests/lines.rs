@@ -1,7 +1,8 @@
 //! Request lines and answer lines, and the samples made of them.
 
-use second::line::{passed_over, read, LONGEST};
-use second::sample::{Expect, Sampler};
+use second::line::{answer, passed_over, read, LONGEST};
+use second::sample::lines::Lines;
+use second::sample::Expect;
 use std::collections::BTreeMap;
 
 /// The answer line of a readable request line.
@@ -21,7 +22,10 @@ fn answer_lines() {
     assert_eq!(rooms("0 2"), "5 0 0 0 | | -9 -9");
     assert_eq!(rooms("2 0"), "5 0 0 0 | -7 -7 |");
     assert_eq!(rooms("0 0"), "5 0 0 0 | |");
-    assert_eq!(told("1 1 0 1 2 0 4097 2 0 1025 1 2"), "5 0 0 0 | -7 | -9 -9");
+    assert_eq!(
+        told("1 1 0 1 2 0 4097 2 0 1025 1 2"),
+        "5 0 0 0 | -7 | -9 -9"
+    );
     assert_eq!(told("1 1 0 1 2 0 4097 2 0 1025"), "6 1 0 0 | |");
 }
 
@@ -155,7 +159,16 @@ fn the_longest_line() {
 
 #[test]
 fn lines_passed_over() {
-    for line in [&b""[..], b" ", b"\t \t", b"\r", b" \r", b"#", b"# x", b"#\r"] {
+    for line in [
+        &b""[..],
+        b" ",
+        b"\t \t",
+        b"\r",
+        b" \r",
+        b"#",
+        b"# x",
+        b"#\r",
+    ] {
         assert!(passed_over(line));
     }
     for line in [&b"\x0c"[..], b" #", b"\t#", b"\r#", b"0", b"\x0b"] {
@@ -163,21 +176,65 @@ fn lines_passed_over() {
     }
 }
 
+/// A line that begins with the word `tick` is read as a net and a moment, and
+/// every other line as a request. The readings are worked out by hand: 7/2 of
+/// a unit, and 2, 3, -2 at a half: 5/2, 1/2, then 3/2.
+#[test]
+fn tick_lines() {
+    let told = |line: &str| answer(line.as_bytes());
+    let good = |line: &str| told(line).expect("it is readable");
+    assert_eq!(good("tick 2 0 7 512"), "0 0 229376");
+    assert_eq!(good("tick 3 2 3 -2 512"), "0 0 98304");
+    assert_eq!(good("\ttick  1 -4096\r 1024 "), "0 0 -268435456");
+    assert_eq!(good("tick 0 9"), "3 0 0");
+    assert_eq!(
+        good("tick 26 9 9 9 9 9 9 9 9 9 9 9 9 9 9 9 9 9 9 9 9 9 9 9 9 9 9999 1025"),
+        "3 0 0"
+    );
+    assert_eq!(good("tick 2 7 4097 1025"), "6 1 0");
+    assert_eq!(good("tick 2 7 4096 1025"), "11 0 0");
+    assert_eq!(good("tick 1 0 4294967295"), "11 0 0");
+    for line in [
+        "tick",
+        "tick 1",
+        "tick 1 0",
+        "tick 1 0 0 0",
+        "tick 1 0 -1",
+        "tick 1 0 4294967296",
+        "tick 65 0",
+        "tick 1 2147483648 0",
+        "tick 1 0 0 age=0",
+        "ticks 1 0 0",
+        "Tick 1 0 0",
+        "tick1 0 0",
+        "1 tick 0 0",
+    ] {
+        assert!(told(line).is_err(), "{line}");
+    }
+    assert_eq!(
+        good("1 1 0 1 2 0 100 2 0 1024"),
+        "0 0 2 2 | 0 102400 | 0 100"
+    );
+}
+
 /// Every sample is answered as its kind says, and every kind comes.
 #[test]
 fn samples_are_what_they_say() {
-    let mut sampler = Sampler::new(7);
+    let mut sampler = Lines::new(7);
     let mut kinds: BTreeMap<String, u32> = BTreeMap::new();
-    for _ in 0..40_000 {
+    for _ in 0..48_000 {
         if let Some(aside) = sampler.aside() {
             assert!(passed_over(aside));
         }
         let sample = sampler.draw();
         assert!(!passed_over(&sample.line));
         assert!(!sample.line.contains(&b'\n'));
-        let got = match read(&sample.line) {
+        let got = match answer(&sample.line) {
             Err(_) => Expect::Unreadable,
-            Ok(asked) => Expect::Number(asked.reply().answer.number),
+            Ok(line) => {
+                let number = line.split(' ').next().and_then(|word| word.parse().ok());
+                Expect::Number(number.expect("an answer begins with its number"))
+            }
         };
         let shown = sample.line.escape_ascii();
         assert_eq!(got, sample.expect, "{}: {shown}", sample.kind);
@@ -189,13 +246,15 @@ fn samples_are_what_they_say() {
     assert_eq!(alone.count(), 9);
     let ages = kinds.keys().filter(|kind| kind.starts_with("age"));
     assert_eq!(ages.count(), 54);
+    let ticks = kinds.keys().filter(|kind| kind.starts_with("tick"));
+    assert_eq!(ticks.count(), 5 + 5 + 9);
     assert!(kinds.values().all(|&times| times > 30), "{kinds:?}");
 }
 
 #[test]
 fn the_same_seed_gives_the_same_samples() {
     let lines = |seed| {
-        let mut sampler = Sampler::new(seed);
+        let mut sampler = Lines::new(seed);
         (0..500).map(|_| sampler.draw().line).collect::<Vec<_>>()
     };
     assert_eq!(lines(11), lines(11));

@@ -4,7 +4,7 @@ use mathlib.Core.List.{List, [], _∷_}
 use Prim.Native.Nat.{ℕ}
 use lib.IntN.{pos}
 use Rattle.spell.specs.Decimal.{digitsOf, digits, decimal}
-use Rattle.answer_line.specs.Answer.{spaced, verdict, lists, answerLine}
+use Rattle.answer_line.specs.Answer.{spaced, judged, verdict, lists, answerLine}
 
 -- `0 0 2 31 | 0 102400 | 0 100` and `1 0 0 0 | |`
 answers : List (List ℕ)
@@ -14,5 +14,5 @@ answers-are : answers
     ≡ (48 ∷ 32 ∷ 48 ∷ 32 ∷ 50 ∷ 32 ∷ 51 ∷ 49 ∷ 32 ∷ 124 ∷ 32 ∷ 48 ∷ 32 ∷ 49 ∷ 48 ∷ 50 ∷ 52 ∷ 48 ∷ 48 ∷ 32 ∷ 124 ∷ 32 ∷ 48 ∷ 32 ∷ 49 ∷ 48 ∷ 48 ∷ 10 ∷ [])
     ∷ (49 ∷ 32 ∷ 48 ∷ 32 ∷ 48 ∷ 32 ∷ 48 ∷ 32 ∷ 124 ∷ 32 ∷ 124 ∷ 10 ∷ [])
     ∷ []
-unfolding answers answerLine verdict lists spaced decimal digits digitsOf
+unfolding answers answerLine verdict judged lists spaced decimal digits digitsOf
 answers-are = refl

@@ -11,9 +11,13 @@ unfoldable pub spaced : List ℤ → List ℕ
 spaced [] = []
 spaced (z ∷ zs) = 32 ∷ decimal z ++ spaced zs
 
+-- `number place`, as every answer begins
+unfoldable pub judged : ℕ → ℕ → List ℕ
+judged number place = digits number ++ 32 ∷ digits place
+
 -- `number place count entries`
 unfoldable pub verdict : ℕ → ℕ → ℕ → ℕ → List ℕ
-verdict number place count entries = digits number ++ 32 ∷ digits place ++ 32 ∷ digits count ++ 32 ∷ digits entries
+verdict number place count entries = judged number place ++ 32 ∷ digits count ++ 32 ∷ digits entries
 
 -- ` | numerators | points`
 unfoldable pub lists : List ℤ → List ℤ → List ℕ
@@ -22,6 +26,10 @@ lists exact points = 32 ∷ 124 ∷ spaced exact ++ 32 ∷ 124 ∷ spaced points
 -- both and a newline
 unfoldable pub answerLine : ℕ → ℕ → ℕ → ℕ → List ℤ → List ℤ → List ℕ
 answerLine number place count entries exact points = verdict number place count entries ++ lists exact points ++ 10 ∷ []
+
+-- of a reading at a tick: `number place reading` and a newline
+unfoldable pub readingLine : ℕ → ℕ → ℤ → List ℕ
+readingLine number place reading = judged number place ++ 32 ∷ decimal reading ++ 10 ∷ []
 
 -- lists of at most 64 places each, as many low words as high ones
 pub record Listed (high : List ℤ) (low : List ℕ) (points : List ℤ) : Type 0 where

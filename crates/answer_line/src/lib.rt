@@ -1,4 +1,5 @@
-// The answer line of a request, written into a lent buffer: number, place, count and entries, then both lists.
+// The answer lines, written into a lent buffer: of a request, its number, place, count and entries, then both lists; of a reading
+// at a tick, its number, place and reading.
 ghost use mathlib.Core.List.{[], _∷_};
 ghost use mathlib.Core.Path.{_≡_};
 ghost use Prim.Native.Nat.{_+_, _*_, _≤_, _<_};
@@ -6,7 +7,7 @@ ghost use lib.IntN.{pos};
 ghost use lib.ListN.{length, getD};
 ghost use Rattle.spell.specs.Decimal.{decimal, Written};
 ghost use Rattle.two_words.specs.Words.{twoWords, numbersOf};
-ghost use Rattle.answer_line.specs.Answer.{spaced, verdict, lists, answerLine, Listed};
+ghost use Rattle.answer_line.specs.Answer.{spaced, judged, verdict, lists, answerLine, readingLine, Listed};
 use long_decimal::write_words;
 use spell::write_bytes;
 use spell::write_natural;
@@ -73,6 +74,15 @@ fn write_points(list: &[i32], out: &mut [u8], at: usize) -> usize
     end
 }
 
+// `number place`.
+fn write_judged(number: u32, place: usize, out: &mut [u8], at: usize) -> usize
+    requires { ⌜ at + 41 ≤ length (now out) ⌝ }
+    ensures { λ r. ⌜ Written 41 (now (out .entry)) at (judged number place) (now (out .exit)) r ⌝ }
+{
+    let a = write_natural(number as u64, out, at);
+    write_next_natural(place as u64, out, a)
+}
+
 // `number place count entries`.
 fn write_verdict(
     number: u32,
@@ -85,10 +95,9 @@ fn write_verdict(
     requires { ⌜ at + 83 ≤ length (now out) ⌝ }
     ensures { λ r. ⌜ Written 83 (now (out .entry)) at (verdict number place count entries) (now (out .exit)) r ⌝ }
 {
-    let a = write_natural(number as u64, out, at);
-    let b = write_next_natural(place as u64, out, a);
-    let c = write_next_natural(count as u64, out, b);
-    write_next_natural(entries, out, c)
+    let a = write_judged(number, place, out, at);
+    let b = write_next_natural(count as u64, out, a);
+    write_next_natural(entries, out, b)
 }
 
 // A bar before a list.
@@ -128,6 +137,17 @@ pub fn write_answer(
 {
     let a = write_verdict(number, place, count, entries, out, at);
     let b = write_lists(high, low, points, out, a);
+    out[b] = b'\n';
+    b + 1
+}
+
+// `number place reading` and a newline.
+pub fn write_reading(number: u32, place: usize, reading: Num, out: &mut [u8]) -> usize
+    requires { ⌜ 4096 ≤ length (now out) ⌝ }
+    ensures { λ r. ⌜ Written 4096 (now (out .entry)) 0 (readingLine number place (reading .0)) (now (out .exit)) r ⌝ }
+{
+    let a = write_judged(number, place, out, 0);
+    let b = write_next(reading, out, a);
     out[b] = b'\n';
     b + 1
 }

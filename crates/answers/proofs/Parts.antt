@@ -1,65 +1,56 @@
--- Laws of the answers: what was read as a request, and the cases of a line. Assumes nothing.
+-- Laws of the answers: the cases of a line, and a part that was cut. Assumes nothing.
 use mathlib.Core.Path.{_≡_, refl, sym, ap, _∙_}
 use mathlib.Core.Logic.{⊎-elim}
 use mathlib.Core.Bool.{Bool, true, false, cond}
 use mathlib.Core.List.{List, []}
 use Prim.Native.Nat.{ℕ, suc, _≤_, _<_}
 use native.Mathlib.Omega.{arith}
-use lib.IntN.{ℤ, pos}
 use lib.Dec.{eqb}
-use lib.ListN.{length, getD, take, drop, replicate}
-use lib.Seq.{sets, length-sets, drop-cons}
+use lib.ListN.{length, getD, take, drop}
+use lib.Seq.{drop-cons}
 use borrow.Author.Tests.{eq-eqb, ne-eqb, lt-ltb, le-ltb}
-use Rattle.words.specs.Words.{every}
+use Rattle.words.specs.Words.{next, every}
 use Rattle.words.specs.declared.Cursor.{Cursor}
 use Rattle.pieces.specs.Kept.{isPassed, isText, Cut, cutAt, Cuts}
 use Rattle.pieces.proofs.Keeping.{kept-whole}
 use Rattle.pieces.specs.declared.Piece.{Piece}
-use Rattle.text.specs.Line.{said}
-use Rattle.text.specs.Read.{ReadsLine}
+use Rattle.kinds.specs.Kinds.{longestLine, overlong, begun, isKind, opened}
+use Rattle.kinds.specs.Read.{Replies}
+use Rattle.kinds.specs.declared.Replied.{Replied}
+use Rattle.kinds.proofs.Owed.{overlong-unnamed, named-short, replied-nothing}
+use Rattle.text.specs.Line.{request}
 use Rattle.text.proofs.Readers.{said-overlong}
-use Rattle.text.specs.declared.Reading.{Reading}
 use Rattle.spell.specs.Decimal.{Front}
-use Rattle.spell.proofs.Writing.{front-read}
+use Rattle.spell.proofs.Writing.{front-read, written-front}
 use Rattle.tell.specs.Tell.{unreadable, complaint}
-use Rattle.reply.specs.Reply.{Fits, lineIn}
-use Rattle.answers.specs.Answer.{lineOf, answerOf, complaintOf}
+use Rattle.tick_line.specs.Line.{tickWord}
+use Rattle.tick_line.specs.Line as ticks
+use Rattle.reply.specs.Reply.{spokenAs, spoken}
+use Rattle.answers.specs.Answer.{spokenOf, answerOf, complaintOf}
 use Rattle.answers.specs.Contract.{Says, enough, nextRow, Takes}
 use Rattle.answers.specs.declared.lines.Lines.{Lines}
 use Rattle.answers.specs.declared.lines.Taken.{Taken}
 
--- what was read into two arrays of zeros
-abbrev pub zeros : List ℤ
-zeros = replicate 64 (pos 0)
+-- the first word was tested: a tick line, or a ride
+module _ (line : List ℕ) (o w : Cursor) (r : Bool) (begin : o ≡ begun line) (first : w ≡ next line o) (kind : r ≡ isKind line w tickWord) where
+  is-opened : w ≡ opened line
+  unfolding opened
+  is-opened = first ∙ ap (next line) begin
 
-list-size : (k l : List ℤ) → l ≡ sets zeros 0 k → 64 ≡ length l
-list-size k l h = sym (ap length h ∙ length-sets zeros 0 k)
+  is-tick : isKind line (opened line) tickWord ≡ r
+  is-tick = ap (λ c. isKind line c tickWord) (sym is-opened) ∙ sym kind
 
-module _ (line : List ℕ) (surface path : List ℤ) (r : Reading) (is : ReadsLine line zeros zeros surface path r) where
-  list-read : (k l : List ℤ) (n : ℕ) → n ≡ length k → n ≤ 64 → l ≡ sets zeros 0 k → take n l ≡ k
-  list-read k l n e m h = rw (e, h) (front-read zeros k (omega arith))
+  pub tick-short : r ≡ true → length line ≤ longestLine
+  tick-short t = named-short line tickWord (is-tick ∙ t)
 
-  pub surface-size : 64 ≡ length surface
-  surface-size = list-size (said line .surface) surface (is .surface-is)
+  module _ (out out′ : List ℕ) (x : Replied) where
+    pub replies-tick : r ≡ true → Replies (ticks.spoken line w) line out out′ x → Replies (spokenOf line) line out out′ x
+    unfolding spokenOf
+    replies-tick t s = rw (is-tick, t, ← is-opened) s
 
-  pub path-size : 64 ≡ length path
-  path-size = list-size (said line .path) path (is .path-is)
-
-  pub fits : (out : List ℕ) → 4096 ≤ length out → Fits r surface path out
-  fits out m = record {
-    values = omega (arith, surface-size, is .few-values);
-    numbers = omega (arith, path-size, is .few-numbers);
-    exact = is .few-exact;
-    points = is .few-points;
-    enough = m;
-  }
-
-  pub line-is : lineIn r surface path ≡ lineOf (said line)
-  unfolding lineIn lineOf
-  line-is =
-      let surface-is = list-read (said line .surface) surface (r .surface) (is .surface-count) (is .few-values) (is .surface-is) in
-      let path-is = list-read (said line .path) path (r .path) (is .path-count) (is .few-numbers) (is .path-is) in
-      rw (surface-is, path-is, is .head, is .age, is .rooms)
+    pub replies-ride : r ≡ false → Replies (spoken line) line out out′ x → Replies (spokenOf line) line out out′ x
+    unfolding spokenOf
+    replies-ride f s = rw (is-tick, f) s
 
 -- nothing was written
 none : (l : List ℕ) → Front [] l l 0
@@ -68,25 +59,31 @@ none l = record { ends = refl; holds = refl }
 silent : (out err : List ℕ) → Says [] [] out err out err 0 0
 silent out err = record { answered = none out; complained = none err; answer-fits = omega arith; complaint-fits = omega arith }
 
--- a line that is passed over, one that cannot be read, and a request
+-- a line that is passed over, one that cannot be read, and one that says something
 module _ (line : List ℕ) (row : ℕ) (out err : List ℕ) where
   pub says-passed : true ≡ isPassed line → Says (answerOf line) (complaintOf row line) out err out err 0 0
   unfolding answerOf complaintOf
   says-passed t = rw (← t) (silent out err)
 
-  module _ (p : false ≡ isPassed line) (c : Cursor) (is : c ≡ said line .cursor) (out′ : List ℕ) (m : ℕ) (few : m ≤ length out) where
-    pub says-wrong : (c .wrong ≡ 0 → ⊥) → (err′ : List ℕ) (n : ℕ) → n ≤ length err → Front unreadable out out′ m
-        → Front (complaint row line c) err err′ n
+  module _ (p : false ≡ isPassed line) (between : List ℕ) (r : Replied) (is : Replies (spokenOf line) line out between r) (large : 4096 ≤ length out) where
+    pub says-wrong : (r .cursor .wrong ≡ 0 → ⊥) → (out′ err′ : List ℕ) (m n : ℕ) → m ≤ length out → n ≤ length err → Front unreadable between out′ m
+        → Front (complaint row line (r .cursor)) err err′ n
         → Says (answerOf line) (complaintOf row line) out err out′ err′ m n
     unfolding answerOf complaintOf
-    says-wrong w err′ n l a b =
-        rw (← p, ← is, ne-eqb _ _ w) (record { answered = a; complained = b; answer-fits = few; complaint-fits = l })
+    says-wrong w out′ err′ m n k l a b =
+        rw (← p, ← is .cursor, ne-eqb _ _ w)
+        (record { answered = rw (replied-nothing _ _ _ _ _ is w) at a; complained = b; answer-fits = k; complaint-fits = l })
 
-    pub says-right : c .wrong ≡ 0 → Front (lineOf (said line)) out out′ m → Says (answerOf line)
-        (complaintOf row line) out err out′ err m 0
+    pub says-right : r .cursor .wrong ≡ 0 → Says (answerOf line) (complaintOf row line) out err between err (r .end) 0
     unfolding answerOf complaintOf
-    says-right w a = rw (← p, eq-eqb _ 0 (ap (λ x. x .wrong) (sym is) ∙ w))
-        (record { answered = a; complained = none err; answer-fits = few; complaint-fits = omega arith })
+    says-right w =
+        let e = eq-eqb _ 0 (ap (λ x. x .wrong) (sym (is .cursor)) ∙ w) in
+        rw (← p, e) (record {
+          answered = written-front _ _ _ _ _ (rw e at (is .wrote));
+          complained = none err;
+          answer-fits = omega (arith, is .wrote .small);
+          complaint-fits = omega arith;
+        })
 
 -- too little room, and enough
 module _ (a b out err : List ℕ) where
@@ -157,6 +154,10 @@ takes-further part at l line out err line′ out′ err′ r t h = omega (arith,
     one = rw (drop-cons part at 0 h) (go (eqb (getD part at 0) 10) _ _)
 
 -- a line of any length says what is kept of it
-pub kept-says : (s : List ℕ) → every isText s ≡ true → said (cutAt 4097 [] s .kept) ≡ said s
+spoken-overlong : (line : List ℕ) → longestLine < length line → spokenOf line ≡ spokenAs (request [] overlong)
+unfolding spokenOf spoken
+spoken-overlong line l = rw (overlong-unnamed line l tickWord) (ap spokenAs (said-overlong line l))
+
+pub kept-says : (s : List ℕ) → every isText s ≡ true → spokenOf (cutAt 4097 [] s .kept) ≡ spokenOf s
 kept-says s t =
-    ⊎-elim (λ e. ap said e) (λ w. said-overlong _ (w .0) ∙ sym (said-overlong _ (w .1))) (kept-whole s t)
+    ⊎-elim (λ e. ap spokenOf e) (λ w. spoken-overlong _ (w .0) ∙ sym (spoken-overlong _ (w .1))) (kept-whole s t)

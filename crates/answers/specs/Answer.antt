@@ -1,25 +1,23 @@
--- The answer to a line, as bytes: document 01's answer to its request; and what is told of a line that cannot be read. Assumes
--- nothing.
+-- The answer to a line of any kind, as bytes; and what is told of a line that cannot be read. Assumes nothing.
 use mathlib.Core.Bool.{cond}
 use mathlib.Core.List.{List, []}
 use Prim.Native.Nat.{ℕ}
 use lib.Dec.{eqb}
-use Rattle.request.specs.Request.{requestOf}
 use Rattle.pieces.specs.Kept.{isPassed}
-use Rattle.text.specs.Line.{Said, said}
+use Rattle.kinds.specs.Kinds.{isKind, opened, Spoken}
+use Rattle.tick_line.specs.Line as ticks
 use Rattle.tell.specs.Tell.{unreadable, complaint}
-use Rattle.reply.specs.Reply.{replyOf, arraysLent}
+use Rattle.reply.specs.Reply as rides
 
--- the answer line of the request that a line says
-unfoldable pub lineOf : Said → List ℕ
-lineOf s =
-    replyOf (requestOf (s .head) (s .surface) (s .path)) (s .age) (s .rooms .given)
-    (arraysLent (s .rooms .exact) (s .rooms .points))
+-- what a line says, by its first word: `tick`, or else it is a ride
+unfoldable pub spokenOf : List ℕ → Spoken
+spokenOf line = cond (isKind line (opened line) ticks.tickWord) (ticks.spoken line (opened line)) (rides.spoken line)
 
 -- what is answered to a line: nothing where it is passed over
 unfoldable pub answerOf : List ℕ → List ℕ
-answerOf line = cond (isPassed line) [] (cond (eqb (said line .cursor .wrong) 0) (lineOf (said line)) unreadable)
+answerOf line = cond (isPassed line) [] (cond (eqb (spokenOf line .cursor .wrong) 0) (spokenOf line .answer) unreadable)
 
--- what is told of a line by its number: nothing where it is passed over, or is a request
+-- what is told of a line by its number: nothing where it is passed over, or can be read
 unfoldable pub complaintOf : ℕ → List ℕ → List ℕ
-complaintOf row line = cond (isPassed line) [] (cond (eqb (said line .cursor .wrong) 0) [] (complaint row line (said line .cursor)))
+complaintOf row line =
+    cond (isPassed line) [] (cond (eqb (spokenOf line .cursor .wrong) 0) [] (complaint row line (spokenOf line .cursor)))

@@ -4,15 +4,33 @@ mod lines;
 
 ghost use Prim.Native.Nat.{_≤_};
 ghost use lib.ListN.{length};
+ghost use Rattle.kinds.specs.Read.{answerMost, Replies};
+ghost use Rattle.answers.specs.Answer.{spokenOf};
 ghost use Rattle.answers.specs.Contract.{room, SaysAll, Answers};
+use kinds::Replied;
+use kinds::begin;
+use kinds::is_kind;
 pub use lines::Lines;
 pub use lines::Taken;
 pub use lines::take;
+use words::next;
 
 // How many bytes of the answer and of the complaint were written.
 pub struct Lengths {
     pub answer: usize,
     pub complaint: usize,
+}
+
+// The answer line of what a line says, by its first word.
+fn reply_to(line: &[u8], out: &mut [u8]) -> Replied
+    requires { ⌜ answerMost ≤ length (now out) ⌝ }
+    ensures { λ r. ⌜ Replies (spokenOf (now (line .entry))) (now (line .entry)) (now (out .entry)) (now (out .exit)) r ⌝ }
+{
+    let word = next(line, begin(line));
+    if is_kind(line, word, b"tick") {
+        return tick_line::reply(line, word, out);
+    }
+    reply::reply(line, out)
 }
 
 fn say(line: &[u8], row: u64, out: &mut [u8], err: &mut [u8]) -> Lengths
@@ -25,10 +43,8 @@ fn say(line: &[u8], row: u64, out: &mut [u8], err: &mut [u8]) -> Lengths
             complaint: 0,
         };
     }
-    let mut surface = [0i32; 64];
-    let mut path = [0i32; 64];
-    let reading = text::read_line(line, &mut surface, &mut path);
-    let cursor = reading.cursor;
+    let replied = reply_to(line, out);
+    let cursor = replied.cursor;
     if cursor.wrong != 0 {
         return Lengths {
             answer: tell::unreadable(out),
@@ -36,7 +52,7 @@ fn say(line: &[u8], row: u64, out: &mut [u8], err: &mut [u8]) -> Lengths
         };
     }
     Lengths {
-        answer: reply::reply(reading, &surface, &path, out),
+        answer: replied.end,
         complaint: 0,
     }
 }

@@ -115,7 +115,29 @@ fn say_answer() {
     );
 }
 
+// What a tick line is.
+fn say_tick() {
+    io::write_all(STDOUT_FILENO, b"\n");
+    io::write_all(
+        STDOUT_FILENO,
+        b"A line that begins with the word tick reads a net at a tick, and its answer line is\n",
+    );
+    io::write_all(
+        STDOUT_FILENO,
+        b"  tick count point.. k  0 to 64 points; k 0 to 4294967295, read at k/1024\n",
+    );
+    io::write_all(
+        STDOUT_FILENO,
+        b"  number place reading  11 MOMENT: k above 1024; the reading in 1/65536 of a unit\n",
+    );
+    io::write_all(
+        STDOUT_FILENO,
+        b"  tick 2 0 100 512           is answered by   0 0 3276800\n",
+    );
+}
+
 pub fn print() {
     say_request();
     say_answer();
+    say_tick();
 }

@@ -1,2 +1,3 @@
 -- Laws of the numbers of a line. Assumes nothing.
 pub mod Values
+pub mod Zeros

@@ -1,17 +1,22 @@
 -- The composer's answer as a line, and the places that are lent to it. Assumes nothing.
 use mathlib.Core.Path.{_≡_, refl, ap}
 use mathlib.Core.Bool.{Bool}
-use mathlib.Core.List.{_∷_}
+use mathlib.Core.List.{List, _∷_}
 use Prim.Native.Nat.{ℕ, zero, suc, _≤_}
 use native.Mathlib.Omega.{arith}
+use lib.IntN.{ℤ}
 use lib.ListN.{length, take, replicate}
 use Rattle.two_words.specs.Words.{numbersOf}
 use Rattle.request.specs.Request.{Request}
+use Rattle.numbers.proofs.Zeros.{zeros, list-size, list-read}
+use Rattle.text.specs.Line.{said}
+use Rattle.text.specs.Read.{ReadsLine}
+use Rattle.text.specs.declared.Reading.{Reading}
 use Rattle.compose.specs.declared.Composition.{Composition}
 use Rattle.compose.specs.Afterwards.{Arrays}
 use Rattle.compose.specs.Contract.{Composed}
 use Rattle.answer_line.specs.Answer.{answerLine}
-use Rattle.reply.specs.Reply.{shown, replyOf}
+use Rattle.reply.specs.Reply.{shown, replyOf, Fits, lineIn, lineOf}
 
 -- the composer's answer, with the arrays as it leaves them, in the places that are shown
 pub replied : (rq : Request) (age : ℕ) (given : Bool) (lent left : Arrays) (k : Composition) (c d : ℕ)
@@ -28,3 +33,27 @@ pub take-replicate : {A : Type 0} (n m : ℕ) (z : A) → n ≤ m → take n (re
 take-replicate zero m z l = refl
 take-replicate (suc n) zero z l = absurd (omega arith)
 take-replicate (suc n) (suc m) z l = ap (λ s. z ∷ s) (take-replicate n m z (omega arith))
+
+-- what was read as a request
+module _ (line : List ℕ) (surface path : List ℤ) (r : Reading) (is : ReadsLine line zeros zeros surface path r) where
+  pub surface-size : 64 ≡ length surface
+  surface-size = list-size (said line .surface) surface (is .surface-is)
+
+  pub path-size : 64 ≡ length path
+  path-size = list-size (said line .path) path (is .path-is)
+
+  pub fits : (out : List ℕ) → 4096 ≤ length out → Fits r surface path out
+  fits out m = record {
+    values = omega (arith, surface-size, is .few-values);
+    numbers = omega (arith, path-size, is .few-numbers);
+    exact = is .few-exact;
+    points = is .few-points;
+    enough = m;
+  }
+
+  pub line-is : lineIn r surface path ≡ lineOf (said line)
+  unfolding lineIn lineOf
+  line-is =
+      let surface-is = list-read (said line .surface) surface (is .surface-is) (r .surface) (is .surface-count) (is .few-values) in
+      let path-is = list-read (said line .path) path (is .path-is) (r .path) (is .path-count) (is .few-numbers) in
+      rw (surface-is, path-is, is .head, is .age, is .rooms)

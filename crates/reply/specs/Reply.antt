@@ -8,6 +8,8 @@ use Rattle.two_words.specs.Words.{numbersOf}
 use Rattle.request.specs.Refusal.{answer}
 use Rattle.request.specs.Request.{Request, requestOf}
 use Rattle.compose.specs.Afterwards.{Arrays, arrays, roomsOf, highAfter, lowAfter, pointsAfter, entriesAfter}
+use Rattle.kinds.specs.Kinds.{Spoken}
+use Rattle.text.specs.Line.{Said, said}
 use Rattle.text.specs.declared.Reading.{Reading}
 use Rattle.answer_line.specs.Answer.{answerLine}
 
@@ -45,3 +47,16 @@ unfoldable pub lineIn : Reading → List ℤ → List ℤ → List ℕ
 lineIn r surface path =
     replyOf (requestOf (r .head) (take (r .surface) surface) (take (r .path) path)) (r .age) (r .rooms .given)
     (arraysLent (r .rooms .exact) (r .rooms .points))
+
+-- the answer line of the request that a line says
+unfoldable pub lineOf : Said → List ℕ
+lineOf s =
+    replyOf (requestOf (s .head) (s .surface) (s .path)) (s .age) (s .rooms .given)
+    (arraysLent (s .rooms .exact) (s .rooms .points))
+
+abbrev pub spokenAs : Said → Spoken
+spokenAs s = record { cursor = s .cursor; answer = lineOf s }
+
+-- what a ride's line says
+unfoldable pub spoken : List ℕ → Spoken
+spoken line = spokenAs (said line)

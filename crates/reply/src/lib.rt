@@ -1,13 +1,15 @@
-// The answer line of a request: the composer's answer, and its arrays in the places that are shown.
+// The answer line of a request line: the composer's answer, and its arrays in the places that are shown.
 ghost use mathlib.Core.Path.{_≡_};
 ghost use Prim.Native.Nat.{_≤_};
 ghost use lib.ListN.{length};
 ghost use Rattle.request.specs.Request.{requestOf};
 ghost use Rattle.compose.specs.Afterwards.{arrays};
 ghost use Rattle.answer_line.specs.Answer.{Listed};
-ghost use Rattle.reply.specs.Reply.{shown, replyOf, Fits, lineIn};
+ghost use Rattle.kinds.specs.Read.{answerMost, Replies};
+ghost use Rattle.reply.specs.Reply.{shown, replyOf, Fits, lineIn, spoken};
 ghost use Rattle.spell.specs.Decimal.{Written};
 use answer_line::write_answer;
+use kinds::Replied;
 use request::Head;
 use text::Reading;
 use units::Age;
@@ -62,7 +64,7 @@ fn reply_in(
 }
 
 // The same of what was read, with arrays that are filled beforehand.
-pub fn reply(reading: Reading, surface: &[i32], path: &[i32], out: &mut [u8]) -> usize
+fn reply_read(reading: Reading, surface: &[i32], path: &[i32], out: &mut [u8]) -> usize
     requires { ⌜ Fits reading (now surface) (now path) (now out) ⌝ }
     ensures { λ r. ⌜ Written 4096 (now (out .entry)) 0 (lineIn reading (now (surface .entry)) (now (path .entry))) (now (out .exit)) r ⌝ }
 {
@@ -86,4 +88,22 @@ pub fn reply(reading: Reading, surface: &[i32], path: &[i32], out: &mut [u8]) ->
         &mut points[..b],
         out,
     )
+}
+
+// The answer line of what a line says.
+pub fn reply(line: &[u8], out: &mut [u8]) -> Replied
+    requires { ⌜ answerMost ≤ length (now out) ⌝ }
+    ensures { λ r. ⌜ Replies (spoken (now (line .entry))) (now (line .entry)) (now (out .entry)) (now (out .exit)) r ⌝ }
+{
+    let mut surface = [0i32; 64];
+    let mut path = [0i32; 64];
+    let reading = text::read_line(line, &mut surface, &mut path);
+    let cursor = reading.cursor;
+    if cursor.wrong != 0 {
+        return Replied { cursor, end: 0 };
+    }
+    Replied {
+        cursor,
+        end: reply_read(reading, &surface, &path, out),
+    }
 }

@@ -5,10 +5,11 @@ use mathlib.Core.Bool.{true, false}
 use mathlib.Core.List.{List, [], _∷_, _++_, map}
 use Prim.Native.Nat.{ℕ}
 use lib.IntN.{pos}
-use Rattle.words.specs.Words.{isBlank, isSolid, isDigit, run, every, wordAfter, next, spelled, signed, digitsWithin, numberOf, isAge, ageOf}
+use Rattle.words.specs.Words.{isBlank, isSolid, isDigit, run, every, wordAfter, next, spelled, signed, digitsWithin, numberOf, begins, isAge, ageOf}
 use Rattle.words.specs.declared.Cursor.{Cursor}
 use Rattle.numbers.specs.Numbers.{number, headed, value, afterValues, values, listed}
-use Rattle.text.specs.Line.{Said, roomed, aged, ended, request, begun, said}
+use Rattle.kinds.specs.Kinds.{begun, ended}
+use Rattle.text.specs.Line.{Said, roomed, aged, request, said}
 use Rattle.text.specs.declared.Rooms.{Rooms}
 
 -- `1 1 0 1 2 0 100 2 0 1024`
@@ -52,5 +53,5 @@ lines-are : map said lines ≡ says (record { start = 20; end = 24; wrong = 0 })
     ∷ says (record { start = 31; end = 32; wrong = 4 }) own 1
     ∷ []
 unfolding p1 lines own says said request begun ended aged roomed headed listed values afterValues value number numberOf
-    digitsWithin ageOf isAge signed spelled next wordAfter every run isDigit isSolid isBlank
+    digitsWithin ageOf isAge begins signed spelled next wordAfter every run isDigit isSolid isBlank
 lines-are = refl

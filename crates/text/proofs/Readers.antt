@@ -6,13 +6,15 @@ use Prim.Native.Nat.{ℕ, _≤_, _<_}
 use native.Mathlib.Omega.{arith}
 use lib.Dec.{ltb}
 use lib.ListN.{length}
-use borrow.Author.Tests.{lt-ltb, ltb-true, ltb-false}
+use borrow.Author.Tests.{ltb-true, ltb-false}
 use Rattle.words.specs.Words.{next}
 use Rattle.words.specs.Read.{Inside}
 use Rattle.words.specs.declared.Cursor.{Cursor}
 use Rattle.numbers.specs.Numbers.{number, headed, afterValues, values, listed}
 use Rattle.numbers.specs.declared.Headed.{Headed}
-use Rattle.text.specs.Line.{longestLine, roomed, aged, ended, request, overlong, begun, said}
+use Rattle.kinds.specs.Kinds.{longestLine, overlong, begun, ended}
+use Rattle.kinds.proofs.Owed.{begun-overlong}
+use Rattle.text.specs.Line.{roomed, aged, request, said}
 use Rattle.text.specs.declared.Roomed.{Roomed}
 use Rattle.text.specs.declared.Aged.{Aged}
 
@@ -34,10 +36,6 @@ said-is line o h a b m g e n p q r s t u = rw (← n, ← p, ← q, ← r, ← s
 nothing-read : (line : List ℕ) → request line overlong ≡ request [] overlong
 unfolding request headed listed values afterValues number roomed aged ended next
 nothing-read line = refl
-
-begun-overlong : (line : List ℕ) → longestLine < length line → begun line ≡ overlong
-unfolding begun
-begun-overlong line l = rw (lt-ltb longestLine (length line) l)
 
 pub said-overlong : (line : List ℕ) → longestLine < length line → said line ≡ request [] overlong
 unfolding said

@@ -1,24 +1,18 @@
--- What a line says. A cursor goes from word to word: where the word that was read last stands, and what is wrong with it, if
--- anything; from a cursor that is refused nothing more is read, so the first thing that is wrong is the reason. Assumes
--- nothing.
+-- What a request line says, its words read one after the other. Assumes nothing.
 use mathlib.Core.Bool.{false, true, cond}
 use mathlib.Core.List.{List}
 use Prim.Native.Nat.{ℕ}
-use lib.Dec.{ltb, eqb}
+use lib.Dec.{eqb}
 use lib.IntN.{ℤ}
-use lib.ListN.{length}
 use Rattle.request.specs.declared.Head.{Head}
 use Rattle.request.specs.Head.{mostPoints}
-use Rattle.words.specs.Words.{next, wordAt, because, leftOver, tooLong, isAge, ageOf}
+use Rattle.words.specs.Words.{next, wordAt, because, leftOver, isAge, ageOf}
 use Rattle.words.specs.declared.Cursor.{Cursor}
+use Rattle.kinds.specs.Kinds.{begun, ended}
 use Rattle.numbers.specs.Numbers.{most, natural, headed, listed}
 use Rattle.text.specs.declared.Rooms.{Rooms}
 use Rattle.text.specs.declared.Roomed.{Roomed}
 use Rattle.text.specs.declared.Aged.{Aged}
-
--- the longest line
-abbrev pub longestLine : ℕ
-longestLine = 4096
 
 -- the rooms where a line names none: room for the longest answer
 abbrev pub ownRooms : Rooms
@@ -46,10 +40,6 @@ aged line c =
     (let found = ageOf (wordAt line word) in record { cursor = because word (found .wrong); age = found .size })
     (record { cursor = c; age = 0 })
 
--- no word is left
-unfoldable pub ended : List ℕ → Cursor → Cursor
-ended line c = let word = next line c in cond (eqb (word .wrong) 0) (because word leftOver) c
-
 -- what a line says: a request, unless the cursor is refused
 pub record Said : Type 0 where
   pub cursor : Cursor
@@ -75,13 +65,6 @@ request line c =
       rooms = lent .rooms;
       age = last .age;
     }
-
--- a line that is too long is refused before its first word
-abbrev pub overlong : Cursor
-overlong = record { start = longestLine; end = longestLine; wrong = tooLong }
-
-unfoldable pub begun : List ℕ → Cursor
-begun line = cond (ltb longestLine (length line)) overlong (record { start = 0; end = 0; wrong = 0 })
 
 unfoldable pub said : List ℕ → Said
 said line = request line (begun line)

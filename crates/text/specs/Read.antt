@@ -8,14 +8,11 @@ use lib.Seq.{sets}
 use Rattle.words.specs.Read.{Inside}
 use Rattle.words.specs.declared.Cursor.{Cursor}
 use Rattle.numbers.specs.Numbers.{most}
-use Rattle.text.specs.Line.{longestLine, roomed, aged, ended, begun, said}
+use Rattle.kinds.specs.Kinds.{longestLine}
+use Rattle.text.specs.Line.{roomed, aged, said}
 use Rattle.text.specs.declared.Reading.{Reading}
 use Rattle.text.specs.declared.Roomed.{Roomed}
 use Rattle.text.specs.declared.Aged.{Aged}
-
-pub record Begins (line : List ℕ) (r : Cursor) : Type 0 where
-  pub is : r ≡ begun line
-  pub inside : Inside line r
 
 pub record ReadsRooms (line : List ℕ) (c : Cursor) (r : Roomed) : Type 0 where
   pub is : r ≡ roomed line c
@@ -26,10 +23,6 @@ pub record ReadsRooms (line : List ℕ) (c : Cursor) (r : Roomed) : Type 0 where
 pub record ReadsAge (line : List ℕ) (c : Cursor) (r : Aged) : Type 0 where
   pub is : r ≡ aged line c
   pub inside : Inside line (r .cursor)
-
-pub record ReadsEnd (line : List ℕ) (c : Cursor) (r : Cursor) : Type 0 where
-  pub is : r ≡ ended line c
-  pub inside : Inside line r
 
 -- what a line says, with the numbers of its two lists at the front of two arrays
 pub record ReadsLine (line : List ℕ) (surface path surface′ path′ : List ℤ) (r : Reading) : Type 0 where

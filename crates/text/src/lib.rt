@@ -1,15 +1,15 @@
 // Request lines, read: what a line says, or what is wrong with it and where. The readers are handed a cursor and hand one on,
 // straight to the end of the line; once it is refused they read nothing more.
-ghost use mathlib.Core.Path.{_≡_};
 ghost use Rattle.words.specs.Read.{Inside};
-ghost use Rattle.text.specs.Read.{Begins, ReadsRooms, ReadsAge, ReadsEnd, ReadsLine};
+ghost use Rattle.text.specs.Read.{ReadsRooms, ReadsAge, ReadsLine};
+use kinds::begin;
+use kinds::left_over;
+use kinds::read_end;
 use numbers::number;
 use numbers::read_head;
 use numbers::read_list;
 use request::Head;
 use words::Cursor;
-use words::LEFT_OVER;
-use words::TOO_LONG;
 use words::age_of;
 use words::is_age;
 use words::next;
@@ -39,17 +39,6 @@ pub struct Roomed {
 pub struct Aged {
     pub cursor: Cursor,
     pub age: u16,
-}
-
-// A word that is left over.
-fn left_over(word: Cursor) -> Cursor
-    ensures { λ r. ⌜ r ≡ record { start = word .start; end = word .end; wrong = 4 } ⌝ }
-{
-    Cursor {
-        start: word.start,
-        end: word.end,
-        wrong: LEFT_OVER,
-    }
 }
 
 // The rooms: none where no word is left or the next one is the age, else two numbers; a word alone is left over.
@@ -119,36 +108,6 @@ fn read_age(line: &[u8], from: Cursor) -> Aged
             wrong: found.wrong,
         },
         age: found.size as u16,
-    }
-}
-
-// The end: no word is left.
-fn read_end(line: &[u8], from: Cursor) -> Cursor
-    requires { ⌜ Inside (now line) from ⌝ }
-    ensures { λ r. ⌜ ReadsEnd (now (line .entry)) from r ⌝ }
-{
-    let word = next(line, from);
-    if word.wrong != 0 {
-        return from;
-    }
-    left_over(word)
-}
-
-// Where reading begins: a line that is too long is refused at once.
-fn begin(line: &[u8]) -> Cursor
-    ensures { λ r. ⌜ Begins (now (line .entry)) r ⌝ }
-{
-    if 4096 < line.len() {
-        return Cursor {
-            start: 4096,
-            end: 4096,
-            wrong: TOO_LONG,
-        };
-    }
-    Cursor {
-        start: 0,
-        end: 0,
-        wrong: 0,
     }
 }
 

@@ -82,21 +82,8 @@ module _ (w : List ℕ) (below above : ℕ) where
 pub length-between : (line : List ℕ) (start end : ℕ) → end ≤ length line → length (between line start end) ≡ end - start
 length-between line start end l = length-take-le (end - start) (drop start line) (omega (arith, length-drop start line))
 
--- the mark of an age has four bytes
 pub clash : false ≡ true → ⊥
 clash e = let z : _≡_ {A = ℕ} 0 1 = cc in omega arith
-
-no-more : (x : Bool) → (x && false) ≡ true → ⊥
-no-more true e = clash e
-no-more false e = clash e
-
-pub age-long : (w : List ℕ) → isAge w ≡ true → 4 ≤ length w
-unfolding isAge
-age-long [] e = absurd (clash e)
-age-long (a ∷ []) e = absurd (no-more (eqb a 97 && false && false) e)
-age-long (a ∷ b ∷ []) e = absurd (no-more (eqb a 97 && eqb b 103 && false) e)
-age-long (a ∷ b ∷ d ∷ []) e = absurd (no-more (eqb a 97 && eqb b 103 && eqb d 101) e)
-age-long (a ∷ b ∷ d ∷ f ∷ w) e = omega arith
 
 -- a word with the mark, and one without
 module _ (w : List ℕ) (r : Found) where

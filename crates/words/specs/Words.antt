@@ -96,9 +96,18 @@ digitsWithin minus ds bound =
 unfoldable pub numberOf : List ℕ → ℕ → ℕ → Found
 numberOf w below above = cond (eqb (getD w 0 0) 45) (digitsWithin true (drop 1 w) below) (digitsWithin false w above)
 
--- a word that begins with `age=`
+-- a word that begins with a mark
+unfoldable pub begins : List ℕ → List ℕ → Bool
+begins [] w = true
+begins (m ∷ mark) [] = false
+begins (m ∷ mark) (b ∷ w) = eqb b m && begins mark w
+
+-- with `age=`
+abbrev pub ageMark : List ℕ
+ageMark = 97 ∷ 103 ∷ 101 ∷ 61 ∷ []
+
 unfoldable pub isAge : List ℕ → Bool
-isAge w = eqb (getD w 0 0) 97 && eqb (getD w 1 0) 103 && eqb (getD w 2 0) 101 && eqb (getD w 3 0) 61
+isAge w = begins ageMark w
 
 -- the greatest age
 abbrev pub greatestAge : ℕ

@@ -4,7 +4,7 @@ ghost use mathlib.Core.Path.{_≡_};
 ghost use mathlib.Core.Bool.{false};
 ghost use Prim.Native.Nat.{_+_, _-_, _*_, _≤_, _<_, min};
 ghost use lib.ListN.{length};
-ghost use Rattle.words.specs.Words.{isBlank, isDigit, isAge};
+ghost use Rattle.words.specs.Words.{isBlank, isDigit, begins, isAge};
 ghost use Rattle.words.specs.Read.{isOf, Skips, Inside, Finds, cap, ReadsDigits, ReadsWord, ReadsAge};
 
 // The word that was read last stands from start to before end, and reading goes on at end; or it is the word that is wrong,
@@ -165,23 +165,28 @@ pub fn number_of(word: &[u8], below: u64, above: u64) -> Found
     bounded(false, word, above)
 }
 
+// Whether a word begins with a mark.
+pub fn begins(word: &[u8], mark: &[u8]) -> bool
+    ensures { λ r. ⌜ r ≡ begins (now (mark .entry)) (now (word .entry)) ⌝ }
+{
+    if word.len() < mark.len() {
+        return false;
+    }
+    let mut i = 0;
+    while i < mark.len() {
+        if word[i] != mark[i] {
+            return false;
+        }
+        i += 1;
+    }
+    true
+}
+
 // Whether a word begins with `age=`.
 pub fn is_age(word: &[u8]) -> bool
     ensures { λ r. ⌜ r ≡ isAge (now (word .entry)) ⌝ }
 {
-    if word.len() < 4 {
-        return false;
-    }
-    if word[0] != b'a' {
-        return false;
-    }
-    if word[1] != b'g' {
-        return false;
-    }
-    if word[2] != b'e' {
-        return false;
-    }
-    word[3] == b'='
+    begins(word, b"age=")
 }
 
 // The number behind `age=`; a word that does not begin so is left over.

@@ -18,8 +18,8 @@ fn main() -> io::Result<()> {
         if line::passed_over(text) {
             continue;
         }
-        match line::read(text) {
-            Ok(asked) => writeln!(output, "{}", asked.reply().line())?,
+        match line::answer(text) {
+            Ok(answer) => writeln!(output, "{answer}")?,
             Err(wrong) => {
                 eprintln!("-:{row}: {wrong}");
                 writeln!(output, "{}", line::UNREADABLE)?;

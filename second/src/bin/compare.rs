@@ -4,6 +4,7 @@
 //! difference, with 2 when a file cannot be had.
 
 use second::line::{passed_over, UNREADABLE};
+use second::tick::MOMENT;
 use second::Refusal;
 use std::process::ExitCode;
 use std::{env, fs};
@@ -11,7 +12,7 @@ use std::{env, fs};
 /// How many answers carry each number, are unreadable, or are neither.
 #[derive(Default)]
 struct Tally {
-    numbers: [u64; 11],
+    numbers: [u64; 12],
     unreadable: u64,
     other: u64,
 }
@@ -21,7 +22,9 @@ impl Tally {
         let answer = answer.strip_suffix(b"\n").unwrap_or(answer);
         match answer {
             [digit @ b'0'..=b'8', b' ', ..] => self.numbers[usize::from(digit - b'0')] += 1,
-            [b'1', b'0', b' ', ..] => self.numbers[10] += 1,
+            [b'1', digit @ (b'0' | b'1'), b' ', ..] => {
+                self.numbers[usize::from(10 + digit - b'0')] += 1
+            }
             _ if answer == UNREADABLE.as_bytes() => self.unreadable += 1,
             _ => self.other += 1,
         }
@@ -31,7 +34,11 @@ impl Tally {
         let all = self.numbers.iter().sum::<u64>() + self.unreadable + self.other;
         println!("compared {all} answers");
         println!("number 0: {}", self.numbers[0]);
-        for number in Refusal::ALL.map(Refusal::number) {
+        for number in Refusal::ALL
+            .map(Refusal::number)
+            .into_iter()
+            .chain([MOMENT])
+        {
             println!("number {number}: {}", self.numbers[number as usize]);
         }
         println!("unreadable: {}", self.unreadable);

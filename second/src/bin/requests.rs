@@ -1,10 +1,10 @@
-//! Writes random request lines: `requests SEED COUNT`.
+//! Writes random request lines of every kind: `requests SEED COUNT`.
 //!
 //! COUNT request lines go to standard output, with a few lines among them
 //! that are passed over; a table of the kinds goes to standard error. The
 //! same seed gives the same lines.
 
-use second::sample::Sampler;
+use second::sample::lines::Lines;
 use std::collections::BTreeMap;
 use std::env;
 use std::io::{self, BufWriter, Write};
@@ -27,16 +27,16 @@ fn main() -> ExitCode {
 
 fn write(seed: u64, count: u64) -> io::Result<()> {
     let mut output = BufWriter::new(io::stdout().lock());
-    let mut sampler = Sampler::new(seed);
+    let mut lines = Lines::new(seed);
     let mut table: BTreeMap<String, u64> = BTreeMap::new();
     let mut asides = 0;
     for _ in 0..count {
-        if let Some(aside) = sampler.aside() {
+        if let Some(aside) = lines.aside() {
             output.write_all(aside)?;
             output.write_all(b"\n")?;
             asides += 1;
         }
-        let sample = sampler.draw();
+        let sample = lines.draw();
         output.write_all(&sample.line)?;
         output.write_all(b"\n")?;
         *table.entry(sample.kind).or_default() += 1;

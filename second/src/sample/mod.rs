@@ -4,6 +4,7 @@ pub mod cards;
 mod draft;
 mod fault;
 mod frame;
+pub mod lines;
 pub mod longs;
 pub mod patches;
 pub mod records;

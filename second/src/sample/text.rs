@@ -19,7 +19,7 @@ pub const PASSED_OVER: [&[u8]; 11] = [
 ];
 
 /// Words that are no whole numbers.
-const NO_NUMBERS: [&[u8]; 24] = [
+pub const NO_NUMBERS: [&[u8]; 24] = [
     b"x",
     b"+5",
     b"+0",
@@ -106,7 +106,7 @@ pub fn odd(rng: &mut Xorshift, asked: &Asked, turn: usize) -> (&'static str, Vec
 }
 
 /// Puts zeros before the digits of a word.
-fn zeros(word: &mut Vec<u8>, count: usize) {
+pub fn zeros(word: &mut Vec<u8>, count: usize) {
     let sign = usize::from(word.starts_with(b"-"));
     word.splice(sign..sign, vec![b'0'; count]);
 }
@@ -228,7 +228,7 @@ pub fn unreadable(rng: &mut Xorshift, asked: &Asked, turn: usize) -> (&'static s
 }
 
 /// A number beyond 32 signed bits.
-fn far_signed(rng: &mut Xorshift) -> &'static [u8] {
+pub fn far_signed(rng: &mut Xorshift) -> &'static [u8] {
     let far: [&[u8]; 5] = [
         b"2147483648",
         b"-2147483649",

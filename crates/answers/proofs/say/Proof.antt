@@ -1,8 +1,8 @@
--- `answers::say` meets its contract: passed over, unreadable, or a request. Assumes nothing.
+-- `answers::say` meets its contract: passed over, unreadable, or answered. Assumes nothing.
 use mathlib.Core.Path.{sym, _∙_}
 use native.Mathlib.Omega.{arith}
 use Rattle.spell.proofs.Writing.{written-front}
-use Rattle.answers.proofs.Parts.{surface-size, path-size, fits, line-is, says-passed, says-wrong, says-right}
+use Rattle.answers.proofs.Parts.{says-passed, says-wrong, says-right}
 use borrow.Author.Needs.{needs}
 use Rattle.answers.proofs.say.Statement.{statement}
 use Rattle.answers.proofs.say.Tie as tie
@@ -13,8 +13,8 @@ is-passed-requires c κs = search needs
 returns : tie.Need-returns
 returns c = says-passed _ _ _ _ (sym (c .if1 .taken) ∙ c .before .is-passed .ensures)
 
-read-line-requires : tie.Need-read-line-requires
-read-line-requires c κs = search needs
+reply-to-requires : tie.Need-reply-to-requires
+reply-to-requires c κs = search needs
 
 unreadable-requires : tie.Need-unreadable-requires
 unreadable-requires c κs = search needs
@@ -33,36 +33,24 @@ returns-2 c =
     let told = c .before .before in
     let wrote = told .before .before .before .before in
     let test = wrote .before .before in
-    let read = test .before .before .before in
-    let passed = read .before .before .before in
+    let replied = test .before .before .before .before .before in
+    let passed = replied .before .before in
     let room = passed .before .before .before .before .before .pre in
-    says-wrong _ _ _ _ (sym (passed .if1 .left) ∙ passed .before .is-passed .ensures) (read .read-line .result .cursor)
-    (read .read-line .ensures .cursor) _ _ (omega (arith, wrote .unreadable .ensures .small, room .0))
-    (test .if2 .taken) _ _ (omega (arith, told .tell .ensures .small, room .1))
+    says-wrong _ _ _ _ (sym (passed .if1 .left) ∙ passed .before .is-passed .ensures) _ (replied .reply-to .result) (replied .reply-to .ensures)
+    (omega (arith, room .0)) (test .if2 .taken) _ _ _ _ (omega (arith, wrote .unreadable .ensures .small, room .0))
+    (omega (arith, told .tell .ensures .small, room .1))
     (written-front _ _ _ _ _ (wrote .unreadable .ensures)) (written-front _ _ _ _ _ (told .tell .ensures))
-
-slice-aggregate-reply : tie.Need-slice-aggregate-reply
-slice-aggregate-reply c = surface-size _ _ _ _ (c .before .before .before .before .read-line .ensures)
-
-slice-aggregate-reply-2 : tie.Need-slice-aggregate-reply-2
-slice-aggregate-reply-2 c = path-size _ _ _ _ (c .before .before .before .before .before .read-line .ensures)
-
-reply-requires : tie.Need-reply-requires
-reply-requires c κs = fits _ _ _ _ (c .before .before .before .before .before .before .read-line .ensures) _ (omega arith)
 
 same-length-3 : tie.Need-same-length-3
 same-length-3 c = search needs
 
 returns-3 : tie.Need-returns-3
 returns-3 c =
-    let replied = c .before .before in
-    let test = replied .before .before .before .before in
-    let read = test .before .before .before in
-    let passed = read .before .before .before in
+    let replied = c .before .before .before .before .before in
+    let passed = replied .before .before in
     let room = passed .before .before .before .before .before .pre in
-    says-right _ _ _ _ (sym (passed .if1 .left) ∙ passed .before .is-passed .ensures) (read .read-line .result .cursor)
-    (read .read-line .ensures .cursor) _ _ (omega (arith, replied .reply .ensures .small, room .0)) (test .if2 .left)
-    (rw (← line-is _ _ _ _ (read .read-line .ensures)) (written-front _ _ _ _ _ (replied .reply .ensures)))
+    says-right _ _ _ _ (sym (passed .if1 .left) ∙ passed .before .is-passed .ensures) _ (replied .reply-to .result) (replied .reply-to .ensures)
+    (omega (arith, room .0)) (c .if2 .left)
 
 pub say-spec : {M : Type 1} → statement M
 say-spec =
@@ -70,14 +58,11 @@ say-spec =
     (tie.spec
     is-passed-requires
     returns
-    read-line-requires
+    reply-to-requires
     unreadable-requires
     tell-requires
     same-length
     same-length-2
     returns-2
-    slice-aggregate-reply
-    slice-aggregate-reply-2
-    reply-requires
     same-length-3
     returns-3)

@@ -1,67 +1,50 @@
--- `reply::reply` meets its contract: the arrays hold what the definition says. Assumes nothing.
-use mathlib.Core.Path.{sym}
-use lib.IntN.{negsuc}
-use lib.ListN.{length-take}
-use lib.Seq.{length-take-le}
+-- `reply::reply` meets its contract: refused, or the answer to the request that was read. Assumes nothing.
 use native.Mathlib.Omega.{arith}
-use Rattle.reply.specs.Reply.{lowSeven, lineIn}
-use Rattle.reply.proofs.Replied.{take-replicate}
+use Rattle.kinds.proofs.Owed.{replies-refused, replies-said}
+use Rattle.reply.specs.Reply.{spoken}
+use Rattle.reply.proofs.Replied.{surface-size, path-size, fits, line-is}
 use borrow.Author.Needs.{needs}
 use Rattle.reply.proofs.reply.Statement.{statement}
 use Rattle.reply.proofs.reply.Tie as tie
 
-slice-aggregate-reply-in : tie.Need-slice-aggregate-reply-in
-slice-aggregate-reply-in c = sym (length-take-le _ _ (omega arith))
+read-line-requires : tie.Need-read-line-requires
+read-line-requires c κs = search needs
 
-slice-aggregate-reply-in-2 : tie.Need-slice-aggregate-reply-in-2
-slice-aggregate-reply-in-2 c = sym (length-take-le _ _ (omega arith))
+returns : tie.Need-returns
+unfolding spoken
+returns c =
+    let read = c .before .before .before .read-line .ensures in
+    replies-refused _ _ _ _ (read .cursor) (read .inside) (read .short) (c .if1 .taken)
 
-array-borrow-prefix-high : tie.Need-array-borrow-prefix-high
-array-borrow-prefix-high c = search needs
+slice-aggregate-reply-read : tie.Need-slice-aggregate-reply-read
+slice-aggregate-reply-read c = surface-size _ _ _ _ (c .before .before .before .before .read-line .ensures)
 
-slice-aggregate-reply-in-3 : tie.Need-slice-aggregate-reply-in-3
-slice-aggregate-reply-in-3 c = sym (length-take-le _ _ (omega arith))
+slice-aggregate-reply-read-2 : tie.Need-slice-aggregate-reply-read-2
+slice-aggregate-reply-read-2 c = path-size _ _ _ _ (c .before .before .before .before .before .read-line .ensures)
 
-array-borrow-prefix-low : tie.Need-array-borrow-prefix-low
-array-borrow-prefix-low c = search needs
-
-slice-aggregate-reply-in-4 : tie.Need-slice-aggregate-reply-in-4
-slice-aggregate-reply-in-4 c = sym (length-take-le _ _ (omega arith))
-
-array-borrow-prefix-points : tie.Need-array-borrow-prefix-points
-array-borrow-prefix-points c = search needs
-
-slice-aggregate-reply-in-5 : tie.Need-slice-aggregate-reply-in-5
-slice-aggregate-reply-in-5 c = sym (length-take-le _ _ (omega arith))
-
-reply-in-requires : tie.Need-reply-in-requires
-reply-in-requires c κs =
-    let room = c .before .before .before .before .before .before .before .before .before .pre .enough in
-    (record { alike = simp length-take; few = simp length-take (omega arith); few-points = simp length-take (omega arith) }, room)
+reply-read-requires : tie.Need-reply-read-requires
+reply-read-requires c κs = fits _ _ _ _ (c .before .before .before .before .before .before .read-line .ensures) _ (omega arith)
 
 same-length : tie.Need-same-length
 same-length c = search needs
 
-returns : tie.Need-returns
-unfolding lineIn
-returns c =
-    let replied = c .before .before .before .before .before in
-    let fits = replied .before .before .before .before .before .before .before .before .before .before .pre in
-    rw (← take-replicate _ 64 (negsuc 0) (fits .exact), ← take-replicate _ 64 lowSeven (fits .exact), ← take-replicate _ 64 (negsuc 8) (fits .points))
-    (replied .reply-in .ensures)
+returns-2 : tie.Need-returns-2
+unfolding spoken
+returns-2 c =
+    let wrote = c .before .before in
+    let test = wrote .before .before .before .before in
+    let read = test .before .before .before .read-line .ensures in
+    replies-said _ _ _ _ (read .cursor) (read .inside) (read .short) (test .if1 .left) _ _
+    (rw (← line-is _ _ _ _ read) (wrote .reply-read .ensures))
 
 pub reply-spec : {M : Type 1} → statement M
 reply-spec =
     tie.close
     (tie.spec
-    slice-aggregate-reply-in
-    slice-aggregate-reply-in-2
-    array-borrow-prefix-high
-    slice-aggregate-reply-in-3
-    array-borrow-prefix-low
-    slice-aggregate-reply-in-4
-    array-borrow-prefix-points
-    slice-aggregate-reply-in-5
-    reply-in-requires
+    read-line-requires
+    returns
+    slice-aggregate-reply-read
+    slice-aggregate-reply-read-2
+    reply-read-requires
     same-length
-    returns)
+    returns-2)

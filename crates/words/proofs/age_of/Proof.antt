@@ -4,8 +4,9 @@ use mathlib.Core.Bool.{true}
 use native.Mathlib.Omega.{arith}
 use borrow.Author.Needs.{needs}
 use borrow.Author.Tests.{not-true, not-false}
-use Rattle.words.specs.Words.{isAge}
-use Rattle.words.proofs.Cases.{age-long, reads-age, reads-other}
+use Rattle.words.specs.Words.{ageMark, isAge}
+use Rattle.words.proofs.Cases.{reads-age, reads-other}
+use Rattle.words.proofs.Marks.{begins-long}
 use Rattle.words.proofs.age_of.Statement.{statement}
 use Rattle.words.proofs.age_of.Tie as tie
 
@@ -22,10 +23,12 @@ returns : tie.Need-returns
 returns c = reads-other _ _ (sym (c .before .before .is-age .ensures) ∙ not-true _ (c .before .if1 .taken)) (c .refused .ensures)
 
 sub-bounded : tie.Need-sub-bounded
-sub-bounded c = age-long _ (marked c)
+unfolding isAge
+sub-bounded c = begins-long ageMark _ (marked c)
 
 part-bounded-start : tie.Need-part-bounded-start
-part-bounded-start c = age-long _ (marked c)
+unfolding isAge
+part-bounded-start c = begins-long ageMark _ (marked c)
 
 part-bounded-end : tie.Need-part-bounded-end
 part-bounded-end c = search needs

@@ -1,9 +1,9 @@
--- `text::read_end` meets its contract: no word is left, or the next one is left over. Assumes nothing.
+-- `kinds::read_end` meets its contract: no word is left, or the next one is left over. Assumes nothing.
 use borrow.Author.Needs.{needs}
 use borrow.Author.Tests.{eq-eqb, ne-eqb}
-use Rattle.text.specs.Line.{ended}
-use Rattle.text.proofs.read_end.Statement.{statement}
-use Rattle.text.proofs.read_end.Tie as tie
+use Rattle.kinds.specs.Kinds.{ended}
+use Rattle.kinds.proofs.read_end.Statement.{statement}
+use Rattle.kinds.proofs.read_end.Tie as tie
 
 next-requires : tie.Need-next-requires
 next-requires c κs = search needs

@@ -1,0 +1,64 @@
+-- `answers::reply_to` meets its contract: a tick line, or a ride. Assumes nothing.
+use Rattle.answers.proofs.Parts.{tick-short, replies-tick, replies-ride}
+use borrow.Author.Needs.{needs}
+use Rattle.answers.proofs.reply_to.Statement.{statement}
+use Rattle.answers.proofs.reply_to.Tie as tie
+
+begin-requires : tie.Need-begin-requires
+begin-requires c κs = search needs
+
+next-requires : tie.Need-next-requires
+next-requires c κs = search needs
+
+slice-aggregate-is-kind : tie.Need-slice-aggregate-is-kind
+slice-aggregate-is-kind c = search needs
+
+is-kind-requires : tie.Need-is-kind-requires
+is-kind-requires c κs = search needs
+
+reply-requires : tie.Need-reply-requires
+reply-requires c κs =
+    let word = c .before .before .before .before in
+    let short = tick-short _ _ _ _ (word .before .begin .ensures .is) (word .next .ensures .is) (c .before .before .is-kind .ensures)
+    (c .before .if1 .taken) in
+    (word .next .ensures .inside, short, word .before .before .before .before .pre)
+
+same-length : tie.Need-same-length
+same-length c = search needs
+
+returns : tie.Need-returns
+returns c =
+    let wrote = c .before .before in
+    let test = wrote .before .before in
+    let word = test .before .before .before in
+    replies-tick _ _ _ _ (word .before .begin .ensures .is) (word .next .ensures .is) (test .before .is-kind .ensures) _ _ _ (test .if1 .taken)
+    (wrote .reply .ensures)
+
+reply-requires-2 : tie.Need-reply-requires-2
+reply-requires-2 c κs = search needs
+
+same-length-2 : tie.Need-same-length-2
+same-length-2 c = search needs
+
+returns-2 : tie.Need-returns-2
+returns-2 c =
+    let wrote = c .before .before in
+    let test = wrote .before .before in
+    let word = test .before .before .before in
+    replies-ride _ _ _ _ (word .before .begin .ensures .is) (word .next .ensures .is) (test .before .is-kind .ensures) _ _ _ (test .if1 .left)
+    (wrote .reply2 .ensures)
+
+pub reply-to-spec : {M : Type 1} → statement M
+reply-to-spec =
+    tie.close
+    (tie.spec
+    begin-requires
+    next-requires
+    slice-aggregate-is-kind
+    is-kind-requires
+    reply-requires
+    same-length
+    returns
+    reply-requires-2
+    same-length-2
+    returns-2)

@@ -1,0 +1,2 @@
+-- Laws of a line of any kind. Assumes nothing.
+pub mod Owed

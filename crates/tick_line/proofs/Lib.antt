@@ -1,0 +1,3 @@
+-- Laws of a tick line. Assumes nothing.
+pub mod Behind
+pub mod Examples
