@@ -51,7 +51,7 @@ static void put_word(uint8_t *at, int32_t word)
 static void lay(const struct ride *ride)
 {
     uint32_t seed = 12345;
-    uint8_t *at = record + LEAN_HEAD;
+    uint8_t *at = record + LEAN_AGED_HEAD;
     size_t k;
 
     asked = ride;
@@ -68,9 +68,10 @@ static void lay(const struct ride *ride)
             path[k] = 1024 - path[k - 1] - path[k - 2];
         }
     }
-    length = LEAN_HEAD + 2 * (values + numbers);
+    length = LEAN_AGED_HEAD + 2 * (values + numbers);
     put_word(record + LEAN_AT_LENGTH, (int32_t)length);
-    put_word(record + LEAN_AT_KIND, LEAN_REQUEST);
+    put_word(record + LEAN_AT_KIND, LEAN_AGED_REQUEST);
+    put_word(record + LEAN_AT_AGE, LEAN_MOST_AGE);
     record[LEAN_AT_FORM] = (uint8_t)ride->form;
     record[LEAN_AT_FIRST] = (uint8_t)ride->first;
     record[LEAN_AT_SECOND] = (uint8_t)ride->second;

@@ -2,8 +2,8 @@
  *
  * Each array is a pointer and a length in elements. Ranges must not overlap where one of them is written, and no pointer may be
  * null, also where its length is 0. Any numbers are legal, and so are arrays of any lengths: what is wrong is answered. Each
- * function always returns. Each is reentrant: it keeps nothing between calls, allocates nothing and calls nothing but memcpy and
- * memset. An array stands where its element type may stand. Stack, time and code size: docs/FIRMWARE.md.
+ * function always returns. Each is reentrant: it keeps nothing between calls, allocates nothing and calls nothing but memcpy,
+ * memmove, memset and memcmp. An array stands where its element type may stand. Stack, time and code size: docs/FIRMWARE.md.
  */
 #ifndef LEAN_H
 #define LEAN_H

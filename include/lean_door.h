@@ -48,7 +48,8 @@ enum {
     LEAN_MOST_AGE = 250,     /* the greatest age, in milliseconds, that is accepted */
     LEAN_REPLY_ROOM = 58,    /* a reply needs this much room, whatever it says */
     LEAN_MOST_POINTS = 25,
-    LEAN_MOST_REQUEST = 82   /* bytes of the longest request that is not FRAME: 10 and two for each of 15 values and 21 path numbers */
+    LEAN_MOST_REQUEST = 82   /* bytes of the longest request that can be accepted: 10, and two for each of 15 values and 21 path
+                                numbers */
 };
 
 /* Where a record's fields stand: of both, of a request, and of a reply. */
@@ -85,9 +86,9 @@ enum {
  * The numbers 3, 4 and 5 (SURFACE, PATH, ROOM of lean.h) never come from the door: a body of another length is FRAME, and the
  * reply room is asked for first.
  *
- * Reentrant: it keeps nothing between calls (no data, no bss), allocates nothing and calls nothing but memcpy and memset. Bytes may
- * stand at any address. It uses the floating-point unit's vector registers (SSE2 on x86-64, NEON on AArch64) for whole numbers: an
- * interrupt that calls it must save them. What it takes of stack, time and code: docs/FIRMWARE.md. */
+ * Reentrant: it keeps nothing between calls (no data, no bss), allocates nothing and calls nothing but memcpy, memmove, memset
+ * and memcmp. Bytes may stand at any address. It uses the vector registers (SSE2 on x86-64, NEON on AArch64) for whole numbers
+ * too: an interrupt that calls it must save them. What it takes of stack, time and code: docs/FIRMWARE.md. */
 size_t door_reply(const uint8_t *request, size_t request_length, uint8_t *reply, size_t reply_length) LEAN_NONNULL;
 
 #ifdef __cplusplus

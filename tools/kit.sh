@@ -1,5 +1,5 @@
 # Sourced by the scripts of this repository. Sets `top`, the repository's folder, `rt`, the kit's command, `kit`, the kit's
-# folder, and `start`, the words before a program's path, and gives `quietly` and `rust`; leaves with 2 where there is no kit.
+# folder, and `start`, the words before a program's path, and gives `locked`, `quietly`, `later` and `rust`; leaves with 2 where there is no kit.
 # shellcheck shell=bash disable=SC2034
 top=$(dirname "$(dirname "$(readlink -f "${BASH_SOURCE[0]}")")")
 
@@ -20,16 +20,36 @@ tools=$kit/on/$(uname -m)/toolchain
 start=("$tools/lib/ld-linux-x86-64.so.2" --library-path "$tools/lib")
 if [ -x "$tools/bin/qemu-x86_64" ]; then start=("$tools/bin/qemu-x86_64" "${start[@]}"); fi
 
-# Runs rt in the repository and shows what it says only where it fails. One at a time, so that programs joined by a pipe do
-# not build into each other's files.
+# One at a time works in target/, so that programs joined by a pipe do not build into each other's files and the gate does not
+# take a program away that is being built. The lock is the folder crates/ itself: it asks for no right to write, and rt ci does
+# not remove it.
+locked() { # COMMAND...
+    local lock status=0
+    exec {lock}<"$top/crates"
+    if command -v flock >/dev/null && ! flock -n "$lock"; then
+        echo "${0##*/}: waiting for another check in $top" >&2
+        flock "$lock"
+    fi
+    "$@" {lock}<&- || status=$?
+    exec {lock}<&-
+    return "$status"
+}
+
+# Tells something where what is under way takes more than two seconds: later WORDS, and then `in_time`.
+later() { # WORDS
+    { read -r -t 2 <> <(:) || echo "$1" >&2; } </dev/null >/dev/null &
+    teller=$!
+}
+in_time() {
+    kill "$teller" 2>/dev/null || true
+    wait "$teller" 2>/dev/null || true
+}
+
+# Runs rt in the repository and shows what it says only where it fails.
+rt_here() { (cd "$top" && "$rt" "$@") 2>&1 </dev/null; }
 quietly() { # WORDS...
     local said
-    mkdir -p "$top/target"
-    said=$(
-        exec 9>"$top/target/lock"
-        ! command -v flock >/dev/null || flock 9
-        cd "$top" && "$rt" "$@" 2>&1 </dev/null
-    ) || {
+    said=$(locked rt_here "$@") || {
         printf '%s\n' "$said" >&2
         return 1
     }

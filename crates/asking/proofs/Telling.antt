@@ -9,45 +9,65 @@ use lib.Dec.{ltb, eqb}
 use lib.ListN.{length, getD, take, drop, set, length-append, length-take, length-set}
 use lib.Seq.{sets, take-all, take-add}
 use borrow.Author.Tests.{eq-eqb, ne-eqb, le-ltb, ltb-true}
-use Rattle.spell.specs.Decimal.{Front}
 use Rattle.spell.proofs.Writing.{front-read}
 use Rattle.words.specs.Words.{isBlank}
 use Rattle.pieces.specs.Kept.{keptByte, Cut, cutAt}
 use Rattle.feed.specs.Parts.{fed}
 use Rattle.feed.proofs.Parts.{fed-more}
+use Rattle.names.proofs.Naming.{front-taken}
+use Rattle.names.specs.Names.{nameOf, firstWidth, firstNumber, byName}
 use Rattle.answers.specs.Answer.{answerOf, complaintOf}
 use Rattle.answers.specs.Contract.{enough, Takes}
 use Rattle.answers.specs.declared.lines.Taken.{Taken}
 use Rattle.files.specs.declared.Stream.{Stream}
 use Rattle.files.specs.Stream.{Through, through-none, through-more, Wrote, wrote-none, wrote-more}
-use Rattle.asking.specs.Told.{Told, blamed, keeping, lineEnded, after, untold, toldOf}
+use Rattle.asking.specs.Told.{Told, How, shownBy, blamed, keeping, lineEnded, after, untold, toldOf}
 use Rattle.asking.specs.Asked.{Puts, Holds, Carries, Read, ending, Answered}
 use Rattle.asking.specs.declared.State.{State}
 
 -- ---- what goes out
 
-module _ (name answer : List ℕ) (taken : Taken) (s : State) (o : Stream) (w : Wrote (s .out) answer o) where
-  pub puts-quiet : (complaint : List ℕ) → length complaint ≡ 0
-      → Puts name answer complaint taken s (record { lines = taken .lines; out = o; err = s .err; wrong = s .wrong })
+module _ (how : How) (answers : List ℕ) (taken : Taken) (s : State) (o : Stream)
+    (w : Wrote (s .out) (shownBy (how .byNames) (take (taken .answer) answers)) o) where
+  pub puts-quiet : (complaints : List ℕ) → length (take (taken .complaint) complaints) ≡ 0
+      → Puts how answers complaints taken s (record { lines = taken .lines; out = o; err = s .err; wrong = s .wrong })
   unfolding blamed
-  puts-quiet complaint e = record {
+  puts-quiet complaints e = record {
     lines-are = refl;
     answered = w;
     complained = rw (eq-eqb _ 0 e) (wrote-none (s .err));
     wrong-is = rw (eq-eqb _ 0 e);
   }
 
-  pub puts-loud : (complaint : List ℕ) → 0 < length complaint → (e f : Stream) → Wrote (s .err) name e → Wrote e complaint f
-      → Puts name answer complaint taken s (record { lines = taken .lines; out = o; err = f; wrong = true })
+  pub puts-loud : (complaints : List ℕ) → 0 < length (take (taken .complaint) complaints) → (e f : Stream)
+      → Wrote (s .err) (how .name) e → Wrote e (take (taken .complaint) complaints) f
+      → Puts how answers complaints taken s (record { lines = taken .lines; out = o; err = f; wrong = true })
   unfolding blamed
-  puts-loud complaint l e f v x =
+  puts-loud complaints l e f v x =
+      let complaint = take (taken .complaint) complaints in
       let some : eqb (length complaint) 0 ≡ false = ne-eqb _ 0 (λ (z : length complaint ≡ 0). omega arith) in
       record {
         lines-are = refl;
         answered = w;
-        complained = rw some (wrote-more (s .err) name e complaint f v x);
+        complained = rw some (wrote-more (s .err) (how .name) e complaint f v x);
         wrong-is = rw some;
       }
+
+-- an answer as it is wished
+pub shown-by : (byNames : Bool) (line : List ℕ) (to : Stream) (bytes : List ℕ) (r : Stream) → byNames ≡ true → bytes ≡ byName line
+    → Wrote to bytes r → Wrote to (shownBy byNames line) r
+unfolding shownBy
+shown-by byNames line to bytes r t e w = rw t (rw e at w)
+
+pub shown-plain : (byNames : Bool) (line : List ℕ) (to : Stream) (r : Stream) → byNames ≡ false → Wrote to line r
+    → Wrote to (shownBy byNames line) r
+unfolding shownBy
+shown-plain byNames line to r t w = rw t w
+
+shown-none : (byNames : Bool) → shownBy byNames [] ≡ []
+unfolding shownBy byName nameOf firstNumber firstWidth
+shown-none true = refl
+shown-none false = refl
 
 -- ---- a line cut out of a part
 
@@ -61,21 +81,21 @@ module _ (room : ℕ) (b : ℕ) where
   unfolding cutAt
   cut-byte l s e = rw e
 
-  after-newline : (name : List ℕ) (t : Told) → eqb b 10 ≡ true → after room name t b ≡ lineEnded name t
+  after-newline : (how : How) (t : Told) → eqb b 10 ≡ true → after room how t b ≡ lineEnded how t
   unfolding after
-  after-newline name t e = rw e
+  after-newline how t e = rw e
 
-  after-byte : (name : List ℕ) (t : Told) → eqb b 10 ≡ false → after room name t b ≡ keeping t (keptByte room (t .kept) b)
+  after-byte : (how : How) (t : Told) → eqb b 10 ≡ false → after room how t b ≡ keeping t (keptByte room (t .kept) b)
   unfolding after
-  after-byte name t e = rw e
+  after-byte how t e = rw e
 
-module _ (room : ℕ) (name : List ℕ) where
+module _ (room : ℕ) (how : How) where
   cut-cases : Cut → Told → Told
-  cut-cases c t = cond (c .ended) (lineEnded name (keeping t (c .kept))) (keeping t (c .kept))
+  cut-cases c t = cond (c .ended) (lineEnded how (keeping t (c .kept))) (keeping t (c .kept))
 
   -- what a part's bytes up to the next newline tell, where so much of them was cut
   fed-cut : Told → List ℕ → Cut → Told
-  fed-cut t s c = fed (after room name) t (take (c .read) s)
+  fed-cut t s c = fed (after room how) t (take (c .read) s)
 
   cut-fed : (t : Told) (s : List ℕ) → fed-cut t s (cutAt room (t .kept) s) ≡ cut-cases (cutAt room (t .kept) s) t
   unfolding cut-cases fed-cut fed keeping cutAt
@@ -87,12 +107,12 @@ module _ (room : ℕ) (name : List ℕ) where
           → fed-cut t (b ∷ s) (cutAt room (t .kept) (b ∷ s)) ≡ cut-cases (cutAt room (t .kept) (b ∷ s)) t
       by true e more =
           let here = cut-newline room b (t .kept) s e in
-          ap (fed-cut t (b ∷ s)) here ∙ after-newline room b name t e ∙ sym (ap (λ (c : Cut). cut-cases c t) here)
+          ap (fed-cut t (b ∷ s)) here ∙ after-newline room b how t e ∙ sym (ap (λ (c : Cut). cut-cases c t) here)
       by false e more =
           let here = cut-byte room b (t .kept) s e in
           let r = cutAt room (keptByte room (t .kept) b) s .read in
           ap (fed-cut t (b ∷ s)) here
-          ∙ ap (λ (u : Told). fed (after room name) u (take r s)) (after-byte room b name t e)
+          ∙ ap (λ (u : Told). fed (after room how) u (take r s)) (after-byte room b how t e)
           ∙ more
           ∙ sym (ap (λ (c : Cut). cut-cases c t) here)
 
@@ -115,17 +135,13 @@ cut-fits room l (b ∷ s) m = by (eqb b 10) refl (cut-fits room (keptByte room l
     by true e more = rw e m
     by false e more = rw e more
 
--- bytes at the front of a buffer are read there
-front-taken : (bytes l l′ : List ℕ) (n : ℕ) → Front bytes l l′ n → n ≤ length l → take n l′ ≡ bytes
-front-taken bytes l l′ n f m = rw (f .holds, f .ends) (front-read l bytes (omega (arith, f .ends)))
-
 enough-is : (out err bytes : List ℕ) → 8192 ≤ length out → 8192 ≤ length err → enough out err bytes ≡ bytes
 unfolding enough
 enough-is out err bytes p q = rw (le-ltb _ _ p, le-ltb _ _ q)
 
-module _ (part : List ℕ) (at : ℕ) (name line out err line′ out′ err′ : List ℕ) (s s′ : State) (r : Taken)
+module _ (part : List ℕ) (at : ℕ) (how : How) (line out err line′ out′ err′ : List ℕ) (s s′ : State) (r : Taken)
     (takes : Takes part at (s .lines) line out err line′ out′ err′ r)
-    (puts : Puts name (take (r .answer) out′) (take (r .complaint) err′) r s s′)
+    (puts : Puts how out′ err′ r s s′)
     (roomy : 8192 ≤ length out) (roomy′ : 8192 ≤ length err) where
   private-cut : List ℕ → Cut
   private-cut kept = cutAt (length line) kept (drop at part)
@@ -155,13 +171,13 @@ module _ (part : List ℕ) (at : ℕ) (name line out err line′ out′ err′ :
     read-is = let next : r .at ≡ at + private-cut (t .kept) .read = rw kept-is at (takes .next) in omega arith
 
     fed-is : (ended : Bool) → private-cut (t .kept) .ended ≡ ended
-        → fed (after (length line) name) t (take (r .at - at) (drop at part))
-        ≡ cond ended (lineEnded name (keeping t (private-cut (t .kept) .kept))) (keeping t (private-cut (t .kept) .kept))
+        → fed (after (length line) how) t (take (r .at - at) (drop at part))
+        ≡ cond ended (lineEnded how (keeping t (private-cut (t .kept) .kept))) (keeping t (private-cut (t .kept) .kept))
     unfolding private-cut cut-cases fed-cut
-    fed-is ended f = rw read-is (cut-fed (length line) name t (drop at part) ∙ rw f)
+    fed-is ended f = rw read-is (cut-fed (length line) how t (drop at part) ∙ rw f)
 
   turn-holds : (o e : Stream) (t : Told) → Holds o e t line s → (ended : Bool) → private-cut (t .kept) .ended ≡ ended
-      → Holds o e (fed (after (length line) name) t (take (r .at - at) (drop at part))) line′ s′
+      → Holds o e (fed (after (length line) how) t (take (r .at - at) (drop at part))) line′ s′
   unfolding private-cut lineEnded keeping
   turn-holds o e t h true f =
       let said = complaint-is (t .kept) true (h .kept) f in
@@ -184,61 +200,61 @@ module _ (part : List ℕ) (at : ℕ) (name line out err line′ out′ err′ :
         kept = rw (size, held) (front-read line _ (cut-fits (length line) (t .kept) (drop at part) small));
         row = rw (puts .lines-are, takes .row-is, h .kept, f) (h .row);
         answers = rw append-nil at (wrote-more o (t .answers) (s .out) [] (s′ .out) (h .answers)
-            (rw (answer-is (t .kept) false (h .kept) f) at (puts .answered)));
+            (rw (answer-is (t .kept) false (h .kept) f, shown-none (how .byNames)) at (puts .answered)));
         complaints = rw append-nil at (wrote-more e (t .complaints) (s .err) [] (s′ .err) (h .complaints)
             (unfold blamed in (rw said at (puts .complained))));
         wrong = rw (said, h .wrong) at (puts .wrong-is);
       })
 
-  pub turn-carries : Carries name (take (r .at - at) (drop at part)) line s line′ s′
+  pub turn-carries : Carries how (take (r .at - at) (drop at part)) line s line′ s′
   turn-carries = record { carried = λ o e t h. turn-holds o e t h (private-cut (t .kept) .ended) refl }
 
 -- ---- one after the other
 
-pub carries-none : (name line : List ℕ) (s : State) → Carries name [] line s line s
+pub carries-none : (how : How) (line : List ℕ) (s : State) → Carries how [] line s line s
 unfolding fed
-carries-none name line s = record { carried = λ o e t h. h }
+carries-none how line s = record { carried = λ o e t h. h }
 
-pub carries-more : (name a b line : List ℕ) (s : State) (line′ : List ℕ) (s′ : State) (line″ : List ℕ) (s″ : State)
-    → length line′ ≡ length line → Carries name a line s line′ s′ → Carries name b line′ s′ line″ s″
-    → Carries name (a ++ b) line s line″ s″
-carries-more name a b line s line′ s′ line″ s″ size p q = record {
-  carried = λ o e t h. rw (fed-more (after (length line) name) t a b)
-      (rw size at (q .carried o e (fed (after (length line) name) t a) (p .carried o e t h)));
+pub carries-more : (how : How) (a b line : List ℕ) (s : State) (line′ : List ℕ) (s′ : State) (line″ : List ℕ) (s″ : State)
+    → length line′ ≡ length line → Carries how a line s line′ s′ → Carries how b line′ s′ line″ s″
+    → Carries how (a ++ b) line s line″ s″
+carries-more how a b line s line′ s′ line″ s″ size p q = record {
+  carried = λ o e t h. rw (fed-more (after (length line) how) t a b)
+      (rw size at (q .carried o e (fed (after (length line) how) t a) (p .carried o e t h)));
 }
 
 -- a turn of the loop over a part
-pub turn-more : (part : List ℕ) (at : ℕ) (name line₀ line out err line′ out′ err′ : List ℕ) (s₀ s s′ : State) (r : Taken)
-    → at < r .at → length line ≡ length line₀ → Carries name (take at part) line₀ s₀ line s
+pub turn-more : (part : List ℕ) (at : ℕ) (how : How) (line₀ line out err line′ out′ err′ : List ℕ) (s₀ s s′ : State) (r : Taken)
+    → at < r .at → length line ≡ length line₀ → Carries how (take at part) line₀ s₀ line s
     → Takes part at (s .lines) line out err line′ out′ err′ r
-    → Puts name (take (r .answer) out′) (take (r .complaint) err′) r s s′ → 8192 ≤ length out → 8192 ≤ length err
-    → Carries name (take (r .at) part) line₀ s₀ line′ s′
-turn-more part at name line₀ line out err line′ out′ err′ s₀ s s′ r l size p takes puts roomy roomy′ =
+    → Puts how out′ err′ r s s′ → 8192 ≤ length out → 8192 ≤ length err
+    → Carries how (take (r .at) part) line₀ s₀ line′ s′
+turn-more part at how line₀ line out err line′ out′ err′ s₀ s s′ r l size p takes puts roomy roomy′ =
     let e : r .at ≡ at + (r .at - at) = omega arith in
-    let turn = turn-carries part at name line out err line′ out′ err′ s s′ r takes puts roomy roomy′ in
-    subst (λ n. Carries name (take n part) line₀ s₀ line′ s′) (sym e)
-    (rw (take-add at (r .at - at) part) (carries-more name _ _ line₀ s₀ line s line′ s′ size p turn))
+    let turn = turn-carries part at how line out err line′ out′ err′ s s′ r takes puts roomy roomy′ in
+    subst (λ n. Carries how (take n part) line₀ s₀ line′ s′) (sym e)
+    (rw (take-add at (r .at - at) part) (carries-more how _ _ line₀ s₀ line s line′ s′ size p turn))
 
-pub part-over : (part : List ℕ) (at : ℕ) (name line : List ℕ) (s : State) (line′ : List ℕ) (s′ : State) → length part ≤ at
-    → Carries name (take at part) line s line′ s′ → Carries name part line s line′ s′
-part-over part at name line s line′ s′ l p = rw (take-all at part l) at p
+pub part-over : (part : List ℕ) (at : ℕ) (how : How) (line : List ℕ) (s : State) (line′ : List ℕ) (s′ : State) → length part ≤ at
+    → Carries how (take at part) line s line′ s′ → Carries how part line s line′ s′
+part-over part at how line s line′ s′ l p = rw (take-all at part l) at p
 
 -- ---- what was read
 
-pub read-none : (name line : List ℕ) (i : Stream) (s : State) → Read name line i s line i s
-read-none name line i s = record { bytes = []; went = through-none i; carries = carries-none name line s }
+pub read-none : (how : How) (line : List ℕ) (i : Stream) (s : State) → Read how line i s line i s
+read-none how line i s = record { bytes = []; went = through-none i; carries = carries-none how line s }
 
-pub read-one : (name line : List ℕ) (i : Stream) (s : State) (line′ : List ℕ) (i′ : Stream) (s′ : State) (bytes : List ℕ)
-    → Through i bytes i′ → Carries name bytes line s line′ s′ → Read name line i s line′ i′ s′
-read-one name line i s line′ i′ s′ bytes t c = record { bytes = bytes; went = t; carries = c }
+pub read-one : (how : How) (line : List ℕ) (i : Stream) (s : State) (line′ : List ℕ) (i′ : Stream) (s′ : State) (bytes : List ℕ)
+    → Through i bytes i′ → Carries how bytes line s line′ s′ → Read how line i s line′ i′ s′
+read-one how line i s line′ i′ s′ bytes t c = record { bytes = bytes; went = t; carries = c }
 
-pub read-more : (name line : List ℕ) (i : Stream) (s : State) (line′ : List ℕ) (i′ : Stream) (s′ : State) (line″ : List ℕ)
-    (i″ : Stream) (s″ : State) → length line′ ≡ length line → Read name line i s line′ i′ s′ → Read name line′ i′ s′ line″ i″ s″
-    → Read name line i s line″ i″ s″
-read-more name line i s line′ i′ s′ line″ i″ s″ size p q = record {
+pub read-more : (how : How) (line : List ℕ) (i : Stream) (s : State) (line′ : List ℕ) (i′ : Stream) (s′ : State) (line″ : List ℕ)
+    (i″ : Stream) (s″ : State) → length line′ ≡ length line → Read how line i s line′ i′ s′ → Read how line′ i′ s′ line″ i″ s″
+    → Read how line i s line″ i″ s″
+read-more how line i s line′ i′ s′ line″ i″ s″ size p q = record {
   bytes = p .bytes ++ q .bytes;
   went = through-more i (p .bytes) i′ (q .bytes) i″ (p .went) (q .went);
-  carries = carries-more name (p .bytes) (q .bytes) line s line′ s′ line″ s″ size (p .carries) (q .carries);
+  carries = carries-more how (p .bytes) (q .bytes) line s line′ s′ line″ s″ size (p .carries) (q .carries);
 }
 
 -- ---- the whole input
@@ -246,10 +262,10 @@ read-more name line i s line′ i′ s′ line″ i″ s″ size p q = record {
 abbrev pub begun : Stream → Stream → State
 begun out err = record { lines = record { kept = 0; row = 1 }; out = out; err = err; wrong = false }
 
-module _ (name line : List ℕ) (input out err : Stream) (line′ : List ℕ) (i : Stream) (s : State)
-    (p : Read name line input (begun out err) line′ i s) (size : 4097 ≡ length line) (same : length line′ ≡ length line) where
-  all-told : (line″ : List ℕ) (s′ : State) (ended : Bool) → Carries name (ending ended) line′ s line″ s′
-      → Holds out err (toldOf name (p .bytes ++ ending ended)) line″ s′
+module _ (how : How) (line : List ℕ) (input out err : Stream) (line′ : List ℕ) (i : Stream) (s : State)
+    (p : Read how line input (begun out err) line′ i s) (size : 4097 ≡ length line) (same : length line′ ≡ length line) where
+  all-told : (line″ : List ℕ) (s′ : State) (ended : Bool) → Carries how (ending ended) line′ s line″ s′
+      → Holds out err (toldOf how (p .bytes ++ ending ended)) line″ s′
   unfolding toldOf
   all-told line″ s′ ended c =
       let none : Holds out err untold line (begun out err) = record {
@@ -259,12 +275,12 @@ module _ (name line : List ℕ) (input out err : Stream) (line′ : List ℕ) (i
         complaints = wrote-none err;
         wrong = refl;
       } in
-      let all = carries-more name (p .bytes) (ending ended) line (begun out err) line′ s line″ s′ same (p .carries) c in
+      let all = carries-more how (p .bytes) (ending ended) line (begun out err) line′ s line″ s′ same (p .carries) c in
       rw (← size) at (all .carried out err untold none)
 
-  pub answered : (line″ : List ℕ) (s′ : State) (ended : Bool) → Carries name (ending ended) line′ s line″ s′
+  pub answered : (line″ : List ℕ) (s′ : State) (ended : Bool) → Carries how (ending ended) line′ s line″ s′
       → (i .failed ≡ false → s′ .out .failed ≡ false → ended ≡ true)
-      → Answered name input out err
+      → Answered how input out err
       (record { input = i; out = s′ .out; err = s′ .err; unreadable = s′ .wrong; ended = ended })
   answered line″ s′ ended c w =
       let t = all-told line″ s′ ended c in
@@ -277,11 +293,11 @@ module _ (name line : List ℕ) (input out err : Stream) (line′ : List ℕ) (i
         whole = w;
       }
 
-pub last-newline : (name line : List ℕ) (s : State) (line′ : List ℕ) (s′ : State) → Carries name (10 ∷ []) line s line′ s′
-    → Carries name (ending true) line s line′ s′
+pub last-newline : (how : How) (line : List ℕ) (s : State) (line′ : List ℕ) (s′ : State) → Carries how (10 ∷ []) line s line′ s′
+    → Carries how (ending true) line s line′ s′
 unfolding ending
-last-newline name line s line′ s′ c = c
+last-newline how line s line′ s′ c = c
 
-pub no-newline : (name line : List ℕ) (s : State) → Carries name (ending false) line s line s
+pub no-newline : (how : How) (line : List ℕ) (s : State) → Carries how (ending false) line s line s
 unfolding ending
-no-newline name line s = carries-none name line s
+no-newline how line s = carries-none how line s

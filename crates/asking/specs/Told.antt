@@ -7,6 +7,7 @@ use lib.Dec.{eqb}
 use lib.ListN.{length}
 use Rattle.pieces.specs.Kept.{keptByte}
 use Rattle.feed.specs.Parts.{fed}
+use Rattle.names.specs.Names.{byName}
 use Rattle.answers.specs.Answer.{answerOf, complaintOf}
 use Rattle.answers.specs.Contract.{nextRow}
 
@@ -19,6 +20,18 @@ pub record Told : Type 0 where
   pub complaints : List ℕ
   pub unreadable : Bool
 
+-- how it is told: the input's name, and whether refusals are told by name
+pub record How : Type 0 where
+  pub name : List ℕ
+  pub byNames : Bool
+
+abbrev pub telling : List ℕ → Bool → How
+telling name byNames = record { name = name; byNames = byNames }
+
+-- an answer line, with its refusal by name where that is wished
+unfoldable pub shownBy : Bool → List ℕ → List ℕ
+shownBy byNames line = cond byNames (byName line) line
+
 -- a complaint after the input's name; none where there is nothing to complain of
 unfoldable pub blamed : List ℕ → List ℕ → List ℕ
 blamed name complaint = cond (eqb (length complaint) 0) [] (name ++ complaint)
@@ -28,23 +41,23 @@ unfoldable pub keeping : Told → List ℕ → Told
 keeping t kept =
     record { kept = kept; row = t .row; answers = t .answers; complaints = t .complaints; unreadable = t .unreadable }
 
-unfoldable pub lineEnded : List ℕ → Told → Told
-lineEnded name t =
+unfoldable pub lineEnded : How → Told → Told
+lineEnded how t =
     record {
       kept = [];
       row = nextRow (t .row);
-      answers = t .answers ++ answerOf (t .kept);
-      complaints = t .complaints ++ blamed name (complaintOf (t .row) (t .kept));
+      answers = t .answers ++ shownBy (how .byNames) (answerOf (t .kept));
+      complaints = t .complaints ++ blamed (how .name) (complaintOf (t .row) (t .kept));
       unreadable = cond (eqb (length (complaintOf (t .row) (t .kept))) 0) (t .unreadable) true;
     }
 
 -- a byte more, where a line is kept in so much room
-unfoldable pub after : ℕ → List ℕ → Told → ℕ → Told
-after room name t b = cond (eqb b 10) (lineEnded name t) (keeping t (keptByte room (t .kept) b))
+unfoldable pub after : ℕ → How → Told → ℕ → Told
+after room how t b = cond (eqb b 10) (lineEnded how t) (keeping t (keptByte room (t .kept) b))
 
 abbrev pub untold : Told
 untold = record { kept = []; row = 1; answers = []; complaints = []; unreadable = false }
 
 -- what is told of the bytes of an input
-unfoldable pub toldOf : List ℕ → List ℕ → Told
-toldOf name bytes = fed (after 4097 name) untold bytes
+unfoldable pub toldOf : How → List ℕ → Told
+toldOf how bytes = fed (after 4097 how) untold bytes

@@ -1,8 +1,10 @@
 // Answering an input: parts of it are read, and what `answers` says to a line is written out where the line ends. What a file
 // holds is not known here; it is promised that what was written is what is told of what was read.
 ghost use mathlib.Core.Path.{_≡_};
-ghost use Prim.Native.Nat.{_≤_};
+ghost use Prim.Native.Nat.{_+_, _≤_};
 ghost use lib.ListN.{length, take};
+ghost use Rattle.files.specs.Stream.{Wrote};
+ghost use Rattle.asking.specs.Told.{shownBy, telling};
 ghost use Rattle.asking.specs.Asked.{Puts, Carries, Read, Answered};
 use answers::Lines;
 use answers::Taken;
@@ -32,10 +34,30 @@ pub struct Asked {
     pub ended: bool,
 }
 
+// Writes an answer line, with its refusal by name where that is wished.
+fn answered(to: Stream, by_names: bool, line: &[u8], spare: &mut [u8]) -> Stream
+    requires { ⌜ length (now line) + 9 ≤ length (now spare) ⌝ }
+    ensures { λ r. ⌜ Wrote to (shownBy «by_names» (now (line .entry))) r ⌝ }
+{
+    if by_names {
+        let n = names::write_by_name(line, spare);
+        return files::write(to, &spare[..n]);
+    }
+    files::write(to, line)
+}
+
 // What is told of a line, after the input's name, goes to standard error, and then the answer to standard output.
-fn put(name: &[u8], out: &[u8], err: &[u8], taken: Taken, state: State) -> State
-    requires { ⌜ (taken .answer ≤ length (now out)) × (taken .complaint ≤ length (now err)) ⌝ }
-    ensures { λ r. ⌜ Puts (now (name .entry)) (take (taken .answer) (now (out .entry))) (take (taken .complaint) (now (err .entry))) taken state r ⌝ }
+fn put(
+    name: &[u8],
+    by_names: bool,
+    out: &[u8],
+    err: &[u8],
+    spare: &mut [u8],
+    taken: Taken,
+    state: State,
+) -> State
+    requires { ⌜ (taken .answer ≤ length (now out)) × (taken .complaint ≤ length (now err)) × (length (now out) + 9 ≤ length (now spare)) ⌝ }
+    ensures { λ r. ⌜ Puts (telling (now (name .entry)) «by_names») (now (out .entry)) (now (err .entry)) taken state r ⌝ }
 {
     let n = taken.answer;
     let m = taken.complaint;
@@ -45,7 +67,7 @@ fn put(name: &[u8], out: &[u8], err: &[u8], taken: Taken, state: State) -> State
     if m == 0 {
         return State {
             lines,
-            out: files::write(to, &out[..n]),
+            out: answered(to, by_names, &out[..n], spare),
             err: also,
             wrong: state.wrong,
         };
@@ -54,7 +76,7 @@ fn put(name: &[u8], out: &[u8], err: &[u8], taken: Taken, state: State) -> State
     State {
         lines,
         err: files::write(named, &err[..m]),
-        out: files::write(to, &out[..n]),
+        out: answered(to, by_names, &out[..n], spare),
         wrong: true,
     }
 }
@@ -63,20 +85,22 @@ fn put(name: &[u8], out: &[u8], err: &[u8], taken: Taken, state: State) -> State
 fn take_part(
     part: &[u8],
     name: &[u8],
+    by_names: bool,
     line: &mut [u8],
     out: &mut [u8],
     err: &mut [u8],
+    spare: &mut [u8],
     state: State,
 ) -> State
-    requires { ⌜ (8192 ≤ length (now out)) × (8192 ≤ length (now err)) ⌝ }
-    ensures { λ r. ⌜ Carries (now (name .entry)) (now (part .entry)) (now (line .entry)) state (now (line .exit)) r ⌝ }
+    requires { ⌜ (8192 ≤ length (now out)) × (8192 ≤ length (now err)) × (length (now out) + 9 ≤ length (now spare)) ⌝ }
+    ensures { λ r. ⌜ Carries (telling (now (name .entry)) «by_names») (now (part .entry)) (now (line .entry)) state (now (line .exit)) r ⌝ }
 {
     let mut told = state;
     let mut at = 0;
     while at < part.len() {
         let lines = told.lines;
         let taken = answers::take(part, at, lines, line, out, err);
-        told = put(name, out, err, taken, told);
+        told = put(name, by_names, out, err, spare, taken, told);
         at = taken.at;
     }
     told
@@ -86,19 +110,21 @@ fn take_part(
 fn take_some(
     input: Stream,
     name: &[u8],
+    by_names: bool,
     part: &mut [u8],
     line: &mut [u8],
     out: &mut [u8],
     err: &mut [u8],
+    spare: &mut [u8],
     state: State,
 ) -> Turn
-    requires { ⌜ (8192 ≤ length (now out)) × (8192 ≤ length (now err)) ⌝ }
-    ensures { λ r. ⌜ Read (now (name .entry)) (now (line .entry)) input state (now (line .exit)) (r .input) (r .state) ⌝ }
+    requires { ⌜ (8192 ≤ length (now out)) × (8192 ≤ length (now err)) × (length (now out) + 9 ≤ length (now spare)) ⌝ }
+    ensures { λ r. ⌜ Read (telling (now (name .entry)) «by_names») (now (line .entry)) input state (now (line .exit)) (r .input) (r .state) ⌝ }
 {
     let got = files::read(input, part);
     let n = got.count;
     let behind = got.stream;
-    let next = take_part(&part[..n], name, line, out, err, state);
+    let next = take_part(&part[..n], name, by_names, line, out, err, spare, state);
     let to = next.out;
     if to.failed {
         return Turn {
@@ -119,14 +145,16 @@ fn take_some(
 fn read_all(
     input: Stream,
     name: &[u8],
+    by_names: bool,
     part: &mut [u8],
     line: &mut [u8],
     out: &mut [u8],
     err: &mut [u8],
+    spare: &mut [u8],
     state: State,
 ) -> Turn
-    requires { ⌜ (8192 ≤ length (now out)) × (8192 ≤ length (now err)) ⌝ }
-    ensures { λ r. ⌜ Read (now (name .entry)) (now (line .entry)) input state (now (line .exit)) (r .input) (r .state) ⌝ }
+    requires { ⌜ (8192 ≤ length (now out)) × (8192 ≤ length (now err)) × (length (now out) + 9 ≤ length (now spare)) ⌝ }
+    ensures { λ r. ⌜ Read (telling (now (name .entry)) «by_names») (now (line .entry)) input state (now (line .exit)) (r .input) (r .state) ⌝ }
 {
     let mut turn = Turn {
         go: true,
@@ -135,7 +163,17 @@ fn read_all(
     };
     let mut turns = u64::MAX;
     while turns > 0 {
-        turn = take_some(turn.input, name, part, line, out, err, turn.state);
+        turn = take_some(
+            turn.input,
+            name,
+            by_names,
+            part,
+            line,
+            out,
+            err,
+            spare,
+            turn.state,
+        );
         if !turn.go {
             return turn;
         }
@@ -159,13 +197,14 @@ fn left(input: Stream, state: State, ended: bool) -> Asked
 }
 
 // Answers an input that has a name, whose last line may have no newline. A line that a failed read has begun is not answered.
-pub fn answer_all(input: Stream, name: &[u8], out: Stream, err: Stream) -> Asked
-    ensures { λ r. ⌜ Answered (now (name .entry)) input out err r ⌝ }
+pub fn answer_all(input: Stream, name: &[u8], by_names: bool, out: Stream, err: Stream) -> Asked
+    ensures { λ r. ⌜ Answered (telling (now (name .entry)) «by_names») input out err r ⌝ }
 {
     let mut part = io::large_buffer();
     let mut line = [0u8; 4097];
     let mut answer = [0u8; 8192];
     let mut complaint = [0u8; 8192];
+    let mut spare = [0u8; 8201];
     let state = State {
         lines: Lines { kept: 0, row: 1 },
         out,
@@ -175,10 +214,12 @@ pub fn answer_all(input: Stream, name: &[u8], out: Stream, err: Stream) -> Asked
     let turn = read_all(
         input,
         name,
+        by_names,
         &mut part,
         &mut line,
         &mut answer,
         &mut complaint,
+        &mut spare,
         state,
     );
     let behind = turn.input;
@@ -190,6 +231,15 @@ pub fn answer_all(input: Stream, name: &[u8], out: Stream, err: Stream) -> Asked
     if to.failed {
         return left(behind, told, false);
     }
-    let last = take_part(b"\n", name, &mut line, &mut answer, &mut complaint, told);
+    let last = take_part(
+        b"\n",
+        name,
+        by_names,
+        &mut line,
+        &mut answer,
+        &mut complaint,
+        &mut spare,
+        told,
+    );
     left(behind, last, true)
 }

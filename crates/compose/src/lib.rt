@@ -61,7 +61,9 @@ fn write_place(
     points: &mut [i32],
 )
     requires { ⌜ PointsAt (now sums) count r × (R < count) × Enough (arrays (now high) (now low) (now points)) count ⌝ }
-    ensures { λ _. ⌜ Put (now (sums .entry)) (count - 1) r R (arrays (now (high .entry)) (now (low .entry)) (now (points .entry))) (arrays (now (high .exit)) (now (low .exit)) (now (points .exit))) ⌝ }
+    ensures { λ _. ⌜ Put (now (sums .entry)) (count - 1) r R
+        (arrays (now (high .entry)) (now (low .entry)) (now (points .entry)))
+        (arrays (now (high .exit)) (now (low .exit)) (now (points .exit))) ⌝ }
 {
     let n = two_words::joined(sums, R);
     put_high(high, R, n.high);
@@ -79,7 +81,9 @@ fn write_all(
     points: &mut [i32],
 )
     requires { ⌜ PointsAt (now sums) count r × Enough (arrays (now high) (now low) (now points)) count ⌝ }
-    ensures { λ _. ⌜ Wrote (now (sums .entry)) (count - 1) r count (arrays (now (high .entry)) (now (low .entry)) (now (points .entry))) (arrays (now (high .exit)) (now (low .exit)) (now (points .exit))) ⌝ }
+    ensures { λ _. ⌜ Wrote (now (sums .entry)) (count - 1) r count
+        (arrays (now (high .entry)) (now (low .entry)) (now (points .entry)))
+        (arrays (now (high .exit)) (now (low .exit)) (now (points .exit))) ⌝ }
 {
     let mut R = 0;
     while R < count {
@@ -117,7 +121,9 @@ pub fn compose(
     low: &mut [u64],
     points: &mut [i32],
 ) -> Composition
-    ensures { λ c. ⌜ Composed (requestOf head (now (surface .entry)) (now (path .entry))) (age .0) (arrays (now (high .entry)) (now (low .entry)) (now (points .entry))) c (arrays (now (high .exit)) (now (low .exit)) (now (points .exit))) ⌝ }
+    ensures { λ c. ⌜ Composed (requestOf head (now (surface .entry)) (now (path .entry))) (age .0)
+        (arrays (now (high .entry)) (now (low .entry)) (now (points .entry))) c
+        (arrays (now (high .exit)) (now (low .exit)) (now (points .exit))) ⌝ }
 {
     let rooms = Rooms {
         high: high.len(),

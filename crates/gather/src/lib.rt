@@ -120,7 +120,10 @@ pub fn last_row(
     sums: &mut [i64],
 ) -> u64
     requires { ⌜ Ready (now t) count 2 second 1 from begun s weight (now sums) × Inside (now t) count × Small (inTwo net) (entryMost 1) ⌝ }
-    ensures { λ r. ⌜ Counted (now (t .entry)) count 1 second 1 from r × Gained (now (sums .entry)) (now (sums .exit)) (owing (now (t .entry)) count 2 second 1 from begun s weight (boxed (second + 1) (inTwo net))) (duty (now (t .entry)) count 2 second 1 from begun weight) ⌝ }
+    ensures { λ r. ⌜ Counted (now (t .entry)) count 1 second 1 from r
+        × Gained (now (sums .entry)) (now (sums .exit))
+        (owing (now (t .entry)) count 2 second 1 from begun s weight (boxed (second + 1) (inTwo net)))
+        (duty (now (t .entry)) count 2 second 1 from begun weight) ⌝ }
 {
     let g = group(second, 1);
     let closed = weight * begun as u64;
@@ -149,7 +152,10 @@ fn pair_row(
     sums: &mut [i64],
 ) -> u64
     requires { ⌜ Ready (now t) count 2 second 2 from begun s weight (now sums) × Inside (now t) count × Small (inFour net) (entryMost 2) ⌝ }
-    ensures { λ r. ⌜ Counted (now (t .entry)) count 1 second 2 from r × Gained (now (sums .entry)) (now (sums .exit)) (owing (now (t .entry)) count 2 second 2 from begun s weight (boxed (second + 1) (inFour net))) (duty (now (t .entry)) count 2 second 2 from begun weight) ⌝ }
+    ensures { λ r. ⌜ Counted (now (t .entry)) count 1 second 2 from r
+        × Gained (now (sums .entry)) (now (sums .exit))
+        (owing (now (t .entry)) count 2 second 2 from begun s weight (boxed (second + 1) (inFour net)))
+        (duty (now (t .entry)) count 2 second 2 from begun weight) ⌝ }
 {
     let turn = 1 == second;
     let g = group(second, 2);
@@ -180,7 +186,7 @@ pub fn gather_row(
     t: &[u32; 40],
     count: usize,
     second: usize,
-    net: [i64; 15],
+    net: &[i64; 15],
     left: usize,
     from: usize,
     begun: usize,
@@ -188,8 +194,11 @@ pub fn gather_row(
     weight: u64,
     sums: &mut [i64],
 ) -> u64
-    requires { ⌜ (1 < left) × Ready (now t) count 2 second left from begun s weight (now sums) × Inside (now t) count × Small net (entryMost left) ⌝ }
-    ensures { λ r. ⌜ Counted (now (t .entry)) count 1 second left from r × Gained (now (sums .entry)) (now (sums .exit)) (owing (now (t .entry)) count 2 second left from begun s weight (boxed (second + 1) net)) (duty (now (t .entry)) count 2 second left from begun weight) ⌝ }
+    requires { ⌜ (1 < left) × Ready (now t) count 2 second left from begun s weight (now sums) × Inside (now t) count × Small (now net) (entryMost left) ⌝ }
+    ensures { λ r. ⌜ Counted (now (t .entry)) count 1 second left from r
+        × Gained (now (sums .entry)) (now (sums .exit))
+        (owing (now (t .entry)) count 2 second left from begun s weight (boxed (second + 1) (now (net .entry))))
+        (duty (now (t .entry)) count 2 second left from begun weight) ⌝ }
 {
     let turn = left - 1 == second;
     let g = group(second, left);
@@ -207,14 +216,14 @@ pub fn gather_row(
         let place = s + key(t, c);
         let v = w * weight_of(t, c);
         let m = if left == 3 {
-            let q = steps::row_four(&net, u, apart, second == 1);
+            let q = steps::row_four(net, u, apart, second == 1);
             pair_row(t, count, second, q, start, began, place, v, sums)
         } else if left == 2 {
-            let q = steps::row_two(&net, u, apart);
+            let q = steps::row_two(net, u, apart);
             last_row(t, count, second, q, start, began, place, v, sums)
         } else {
-            let q = steps::slid(&net, u, apart, here * apart);
-            gather_row(t, count, second, q, left - 1, start, began, place, v, sums)
+            let q = steps::slid(net, u, apart, here * apart);
+            gather_row(t, count, second, &q, left - 1, start, began, place, v, sums)
         };
         n += left as u64 + m;
         w = closed;
@@ -254,7 +263,10 @@ pub fn last_tri(
     sums: &mut [i64],
 ) -> u64
     requires { ⌜ Ready (now t) count 0 0 1 from begun s weight (now sums) × Even (now t) count × Small (inThree net) (entryMost 1) ⌝ }
-    ensures { λ r. ⌜ Counted (now (t .entry)) count 2 0 1 from r × Gained (now (sums .entry)) (now (sums .exit)) (owing (now (t .entry)) count 0 0 1 from begun s weight (held (inThree net))) (duty (now (t .entry)) count 0 0 1 from begun weight) ⌝ }
+    ensures { λ r. ⌜ Counted (now (t .entry)) count 2 0 1 from r
+        × Gained (now (sums .entry)) (now (sums .exit))
+        (owing (now (t .entry)) count 0 0 1 from begun s weight (held (inThree net)))
+        (duty (now (t .entry)) count 0 0 1 from begun weight) ⌝ }
 {
     let closed = weight * begun as u64;
     let mut c = from;
@@ -280,7 +292,10 @@ fn pair_tri(
     sums: &mut [i64],
 ) -> u64
     requires { ⌜ Ready (now t) count 0 0 2 from begun s weight (now sums) × Even (now t) count × Small (inSix net) (entryMost 2) ⌝ }
-    ensures { λ r. ⌜ Counted (now (t .entry)) count 2 0 2 from r × Gained (now (sums .entry)) (now (sums .exit)) (owing (now (t .entry)) count 0 0 2 from begun s weight (held (inSix net))) (duty (now (t .entry)) count 0 0 2 from begun weight) ⌝ }
+    ensures { λ r. ⌜ Counted (now (t .entry)) count 2 0 2 from r
+        × Gained (now (sums .entry)) (now (sums .exit))
+        (owing (now (t .entry)) count 0 0 2 from begun s weight (held (inSix net)))
+        (duty (now (t .entry)) count 0 0 2 from begun weight) ⌝ }
 {
     let closed = weight * arrangements(begun, 2);
     let mut c = from;
@@ -312,7 +327,10 @@ pub fn gather_tri(
     sums: &mut [i64],
 ) -> u64
     requires { ⌜ (1 < left) × Ready (now t) count 0 0 left from begun s weight (now sums) × Even (now t) count × Small net (entryMost left) ⌝ }
-    ensures { λ r. ⌜ Counted (now (t .entry)) count 2 0 left from r × Gained (now (sums .entry)) (now (sums .exit)) (owing (now (t .entry)) count 0 0 left from begun s weight (held net)) (duty (now (t .entry)) count 0 0 left from begun weight) ⌝ }
+    ensures { λ r. ⌜ Counted (now (t .entry)) count 2 0 left from r
+        × Gained (now (sums .entry)) (now (sums .exit))
+        (owing (now (t .entry)) count 0 0 left from begun s weight (held net))
+        (duty (now (t .entry)) count 0 0 left from begun weight) ⌝ }
 {
     let closed = weight * arrangements(begun, left);
     let formed = triangle(left - 1);

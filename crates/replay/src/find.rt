@@ -16,13 +16,13 @@ fn put_held(held: &[u8; 256], size: u64) {
 }
 
 // Shows pair `wanted` of what comes from a descriptor.
-fn show_from(from: Stream, name: &[u8], wanted: u64) {
+fn show_from(from: Stream, name: &[u8], wanted: u64) -> u64 {
     let hunt = night::seek_pair(from, wanted);
     let seeker = hunt.seeker;
     let read = hunt.input;
     if read.failed {
         os::fail(name);
-        return;
+        return 2;
     }
     if seeker.togo != 0 {
         line(
@@ -30,26 +30,26 @@ fn show_from(from: Stream, name: &[u8], wanted: u64) {
             b"replay: the reading ends before pair ",
             wanted,
         );
-        return;
+        return 2;
     }
     if !line(libc::STDOUT_FILENO, b"pair ", wanted) {
         os::fail(b"standard output");
-        return;
+        return 2;
     }
     let held = seeker.held;
     put_held(&held, seeker.rest);
+    0
 }
 
 // Shows a pair of the trace that argument `file` names, or of standard input where that is 0.
-pub fn run(file: usize, wanted: u64) {
+pub fn run(file: usize, wanted: u64) -> u64 {
     let mut name = io::buffer();
     let input = files::open(file, &mut name);
     let n = input.size;
     let from = input.stream;
     if from.failed {
         os::fail(&name[..n]);
-        return;
+        return 2;
     }
-    show_from(from, &name[..n], wanted);
-    files::close(from);
+    show_from(from, &name[..n], wanted)
 }

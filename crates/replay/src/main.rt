@@ -6,24 +6,29 @@ mod morning;
 mod show;
 mod text;
 
+use files::told::verdict;
+
 fn main() {
     let wish = asked::read();
     if wish.help {
         asked::help();
+        verdict(0);
         return;
     }
     if wish.counting {
         text::say(b"replay: --show asks for the number of a pair, from 1 on\n");
+        verdict(2);
         return;
     }
     if wish.wrong != 0 {
         asked::complain(wish.wrong);
+        verdict(2);
         return;
     }
     let wanted = wish.show;
     if wanted != 0 {
-        find::run(wish.file, wanted);
+        verdict(find::run(wish.file, wanted));
         return;
     }
-    morning::run(wish.file, wish.progress);
+    verdict(morning::run(wish.file, wish.progress));
 }

@@ -39,7 +39,7 @@ pub struct Six {
 }
 
 // Number k of a net.
-pub fn at(p: &[i64; 15], k: usize) -> Num
+fn at(p: &[i64; 15], k: usize) -> Num
     requires { ⌜ k < 15 ⌝ }
     ensures { λ r. ⌜ r .0 ≡ getD (now (p .entry)) k (pos 0) ⌝ }
 {
@@ -88,7 +88,7 @@ pub fn mix(x: u64, y: u64, p: Num, q: Num, r: Num) -> Num
 }
 
 // Number k of the rectangle that s makes; gap is how far apart neighbours are.
-pub fn slide(p: &[i64; 15], s: u64, gap: usize, k: usize) -> Num
+fn slide(p: &[i64; 15], s: u64, gap: usize, k: usize) -> Num
     requires { ⌜ (s ≤ 1024) × (gap < 15) × (k + gap < 15) × Small (now p) (2 ^ 42) ⌝ }
     ensures { λ r. ⌜ r .0 ≡ between s (getD (now (p .entry)) k (pos 0)) (getD (now (p .entry)) (k + gap) (pos 0)) ⌝ }
 {
@@ -159,9 +159,10 @@ pub fn four_two(p: Four, wide: bool, s: u64) -> Two
 }
 
 // Number k of the triangle that x and y make; its neighbours stand at next and right after it.
-pub fn tri(p: &[i64; 15], x: u64, y: u64, k: usize, next: usize) -> Num
+fn tri(p: &[i64; 15], x: u64, y: u64, k: usize, next: usize) -> Num
     requires { ⌜ (x + y ≤ 1024) × (k < 15) × (next < 14) × Small (now p) (2 ^ 42) ⌝ }
-    ensures { λ r. ⌜ r .0 ≡ among x y (getD (now (p .entry)) k (pos 0)) (getD (now (p .entry)) next (pos 0)) (getD (now (p .entry)) (next + 1) (pos 0)) ⌝ }
+    ensures { λ r. ⌜ r .0 ≡ among x y (getD (now (p .entry)) k (pos 0))
+        (getD (now (p .entry)) next (pos 0)) (getD (now (p .entry)) (next + 1) (pos 0)) ⌝ }
 {
     mix(x, y, at(p, k), at(p, next), at(p, next + 1))
 }

@@ -157,8 +157,12 @@ fn rectangle(
     r: usize,
     sums: &mut [i64],
 ) -> u64
-    requires { ⌜ (0 < r) × Ready (now t) count 2 second r 0 (ofGroup second r) 0 1 (now sums) × Inside (now t) count × (valuePlace (now surface) ≡ length (now surface)) ⌝ }
-    ensures { λ n. ⌜ Counted (now (t .entry)) count 1 second r 0 n × Gained (now (sums .entry)) (now (sums .exit)) (owing (now (t .entry)) count 2 second r 0 (ofGroup second r) 0 1 (boxed (second + 1) (now (surface .entry)))) (duty (now (t .entry)) count 2 second r 0 (ofGroup second r) 1) ⌝ }
+    requires { ⌜ (0 < r) × Ready (now t) count 2 second r 0 (ofGroup second r) 0 1 (now sums)
+        × Inside (now t) count × (valuePlace (now surface) ≡ length (now surface)) ⌝ }
+    ensures { λ n. ⌜ Counted (now (t .entry)) count 1 second r 0 n
+        × Gained (now (sums .entry)) (now (sums .exit))
+        (owing (now (t .entry)) count 2 second r 0 (ofGroup second r) 0 1 (boxed (second + 1) (now (surface .entry))))
+        (duty (now (t .entry)) count 2 second r 0 (ofGroup second r) 1) ⌝ }
 {
     if r == 1 {
         let net = Two {
@@ -169,13 +173,16 @@ fn rectangle(
     }
     let net = load_box(surface);
     let begun = gather::of_group(second, r);
-    gather::gather_row(t, count, second, net, r, 0, begun, 0, 1, sums)
+    gather::gather_row(t, count, second, &net, r, 0, begun, 0, 1, sums)
 }
 
 // And of a triangle, of form 3 or of a patch.
 pub fn triangle(t: &[u32; 40], count: usize, surface: &[i32], r: usize, sums: &mut [i64]) -> u64
     requires { ⌜ (0 < r) × Ready (now t) count 0 0 r 0 r 0 1 (now sums) × Even (now t) count × (valuePlace (now surface) ≡ length (now surface)) ⌝ }
-    ensures { λ n. ⌜ Counted (now (t .entry)) count 2 0 r 0 n × Gained (now (sums .entry)) (now (sums .exit)) (owing (now (t .entry)) count 0 0 r 0 r 0 1 (stacked r (now (surface .entry)))) (duty (now (t .entry)) count 0 0 r 0 r 1) ⌝ }
+    ensures { λ n. ⌜ Counted (now (t .entry)) count 2 0 r 0 n
+        × Gained (now (sums .entry)) (now (sums .exit))
+        (owing (now (t .entry)) count 0 0 r 0 r 0 1 (stacked r (now (surface .entry))))
+        (duty (now (t .entry)) count 0 0 r 0 r 1) ⌝ }
 {
     if r == 1 {
         let net = Three {

@@ -2,7 +2,8 @@
 use mathlib.Core.Path.{_≡_, refl, sym, _∙_, ap}
 use mathlib.Core.Bool.{true, false, not, true≢false}
 use Prim.Native.Nat.{ℕ, zero, suc, _+_, _*_, _-_, _/_, _%_, _^_, _≤_, _<_}
-use native.Mathlib.Nat.{mul-comm, mul-assoc, mul-add, mul-div-mul-left, mul-le-mul-right, add-mul-div-right, div-div-eq-div-mul, div-lt-iff-lt-mul, pow-le-pow-right}
+use native.Mathlib.Nat.{mul-comm, mul-assoc, mul-add, mul-div-mul-left, mul-le-mul-right, add-mul-div-right}
+use native.Mathlib.Nat.{div-div-eq-div-mul, div-lt-iff-lt-mul, pow-le-pow-right}
 use native.Mathlib.Omega.{arith}
 use lib.IntN.{ℤ, pos, negsuc, negℤ, natAbs}
 use lib.Signed.{mag, nonNeg}

@@ -40,14 +40,14 @@ use Rattle.steps.proofs.slid.Reads as slid-reads
 use Rattle.gather.proofs.+gather_row.{statement}
 use Rattle.gather.proofs.+gather_row.Tie.{close}
 
-abbrev μ-gather-row : Measures 2 gather-row-kinds.ps ℕ
+abbrev μ-gather-row : Measures 3 gather-row-kinds.ps ℕ
 μ-gather-row κs a = a .1 .1 .1 .1 .0
 
-abbrev gather-row-at : ℕ → In 2 gather-row-kinds.ps
-gather-row-at t = and 2 gather-row-kinds.ps (is 2 gather-row-kinds.ps μ-gather-row t) gather-row.Pre
+abbrev gather-row-at : ℕ → In 3 gather-row-kinds.ps
+gather-row-at t = and 3 gather-row-kinds.ps (is 3 gather-row-kinds.ps μ-gather-row t) gather-row.Pre
 
-abbrev gather-row-below : ℕ → In 2 gather-row-kinds.ps
-gather-row-below t = and 2 gather-row-kinds.ps (falls 2 gather-row-kinds.ps _<_ μ-gather-row t) gather-row.Pre
+abbrev gather-row-below : ℕ → In 3 gather-row-kinds.ps
+gather-row-below t = and 3 gather-row-kinds.ps (falls 3 gather-row-kinds.ps _<_ μ-gather-row t) gather-row.Pre
 
 abbrev callees : ℕ → gather-row-lts.Claims
 callees t = (
@@ -82,13 +82,13 @@ callees t = (
 )
 
 abbrev gather-row-Inv-loop : gather-row-lts.InvT-loop
-gather-row-Inv-loop t count second left from begun s weight sums₀ net turn g here apart closed c₀ b₀ w₀ n₀ sums c b w n =
+gather-row-Inv-loop t count second net left from begun s weight sums₀ turn g here apart closed c₀ b₀ w₀ n₀ sums c b w n =
     (c ≤ count) × Counting t count 1 second (left - 1) from c n
     × Sofar (readAt t count second left) (restAt t count second left) (termsOf t count (groupAt 2 second left)) (ofGroup second left) from begun
     weight s (boxed (second + 1) net) sums₀ closed c b w sums
 
 abbrev gather-row-μ-loop : gather-row-lts.MeasureT-loop
-gather-row-μ-loop t count second left from begun s weight sums₀ net turn g here apart closed c₀ b₀ w₀ n₀ sums c b w n = count - c
+gather-row-μ-loop t count second net left from begun s weight sums₀ turn g here apart closed c₀ b₀ w₀ n₀ sums c b w n = count - c
 
 one-fewer : (n : ℕ) → 1 < n → n ≡ suc (n - 1)
 one-fewer n some = omega arith
@@ -186,7 +186,7 @@ gather-row-mul-v t c =
 gather-row-row-four-requires : (t : ℕ)
     → gather-row-lts.Need-row-four-requires (callees t) (gather-row-at t) gather-row.Post gather-row-Inv-loop gather-row-μ-loop
 gather-row-row-four-requires t c κs =
-    let v = c .before .before in
+    let v = c .before in
     let i = turning t v in (
       inside-here _ _ _ _ _ _ _ (first t i .pre .1 .2) (i .loop-test .taken) (i .before .before .before .before .before .group .ensures .0)
           (v .before .before .before .before .share .ensures),
@@ -199,8 +199,8 @@ gather-row-pair-row-requires : (t : ℕ)
     → gather-row-lts.Need-pair-row-requires (callees t) (gather-row-at t) gather-row.Post gather-row-Inv-loop gather-row-μ-loop
 gather-row-pair-row-requires t c κs =
     let q = c .before .row-four .ensures in
-    let e = c .before .before .before .if1 .taken in
-    let v = c .before .before .before .before in
+    let e = c .before .before .if1 .taken in
+    let v = c .before .before .before in
     let i = turning t v in (
       next-ready _ _ _ _ _ _ _ _ _ _ (first t i .pre .1 .1) _ 2 e _ _ _ _ _ (i .before .loop .inv .2) (i .loop-test .taken) _ _
           (v .before .key .ensures) (v .weight-of .ensures) _ (ap (λ n. eqb (n - 1) (first t i .args .second)) e) _ _
@@ -211,7 +211,7 @@ gather-row-pair-row-requires t c κs =
 
 gather-row-row-two-requires : (t : ℕ) → gather-row-lts.Need-row-two-requires (callees t) (gather-row-at t) gather-row.Post gather-row-Inv-loop gather-row-μ-loop
 gather-row-row-two-requires t c κs =
-    let v = c .before .before .before in
+    let v = c .before .before in
     let i = turning t v in (
       inside-here _ _ _ _ _ _ _ (first t i .pre .1 .2) (i .loop-test .taken) (i .before .before .before .before .before .group .ensures .0)
           (v .before .before .before .before .share .ensures),
@@ -224,8 +224,8 @@ gather-row-last-row-requires : (t : ℕ)
     → gather-row-lts.Need-last-row-requires (callees t) (gather-row-at t) gather-row.Post gather-row-Inv-loop gather-row-μ-loop
 gather-row-last-row-requires t c κs =
     let q = c .before .row-two .ensures in
-    let e = c .before .before .before .if2 .taken in
-    let v = c .before .before .before .before .before in
+    let e = c .before .before .if2 .taken in
+    let v = c .before .before .before .before in
     let i = turning t v in (
       next-ready _ _ _ _ _ _ _ _ _ _ (first t i .pre .1 .1) _ 1 e _ _ _ _ _ (i .before .loop .inv .2) (i .loop-test .taken) _ _
           (v .before .key .ensures) (v .weight-of .ensures) _ (ap (λ n. eqb (n - 1) (first t i .args .second)) e) _ _
@@ -240,25 +240,25 @@ four n some few no3 no2 = omega arith
 
 gather-row-mul-slid : (t : ℕ) → gather-row-lts.Need-mul-slid (callees t) (gather-row-at t) gather-row.Post gather-row-Inv-loop gather-row-μ-loop
 gather-row-mul-slid t c =
-    let v = c .before .before .before in
+    let v = c .before .before in
     let i = turning t v in
     record {
       fits = omega (
         arith,
-        size-most _ _ _ _ (four _ (first t i .pre .1 .0) (first t i .pre .1 .1 .total) (c .before .before .if1 .left)
-            (c .before .if2 .left)) (i .before .before .before .before .of-group .ensures) (i .before .before .before .gap .ensures .0),
+        size-most _ _ _ _ (four _ (first t i .pre .1 .0) (first t i .pre .1 .1 .total) (c .before .if1 .left)
+            (c .if2 .left)) (i .before .before .before .before .of-group .ensures) (i .before .before .before .gap .ensures .0),
       );
     }
 
 gather-row-slid-requires : (t : ℕ) → gather-row-lts.Need-slid-requires (callees t) (gather-row-at t) gather-row.Post gather-row-Inv-loop gather-row-μ-loop
 gather-row-slid-requires t c κs =
-    let v = c .before .before .before in
+    let v = c .before .before in
     let i = turning t v in (
       inside-here _ _ _ _ _ _ _ (first t i .pre .1 .2) (i .loop-test .taken) (i .before .before .before .before .before .group .ensures .0)
           (v .before .before .before .before .share .ensures),
       let p = i .before .before .before .gap .ensures .1 in omega arith,
       size-most _ _ _ _
-          (four _ (first t i .pre .1 .0) (first t i .pre .1 .1 .total) (c .before .before .if1 .left) (c .before .if2 .left))
+          (four _ (first t i .pre .1 .0) (first t i .pre .1 .1 .total) (c .before .if1 .left) (c .if2 .left))
           (i .before .before .before .before .of-group .ensures) (i .before .before .before .gap .ensures .0),
       small-low _ _
           (let p = first t i .pre .1 .0 in omega arith) (first t i .pre .1 .1 .total) (first t i .pre .1 .3),
@@ -270,7 +270,7 @@ gather-row-sub-gather-row t c = omega arith
 gather-row-gather-row-requires : (t : ℕ)
     → gather-row-lts.Need-gather-row-requires (callees t) (gather-row-at t) gather-row.Post gather-row-Inv-loop gather-row-μ-loop
 gather-row-gather-row-requires t c κs =
-    let q = c .before .slid .ensures in
+    let q = c .before .before .slid .ensures in
     let v = c .before .before .before .before .before in
     let i = turning t v in
     let e = four _ (first t i .pre .1 .0) (first t i .pre .1 .1 .total) (c .before .before .before .before .if1 .left)
@@ -293,7 +293,7 @@ Next t v m sums =
     let closed = a .weight * i .before .before .arrangements .result in
     Counted (a .t .now) (a .count) 1 (a .second) (a .left - 1) (v .before .before .before .chosen .result) m
     × Loop (a .t .now) (a .count) 2 (a .second) (a .left) (a .from) (a .begun) (a .s) (a .weight) (a .sums .now) (first t i .pre .1 .1)
-    (boxed (a .second + 1) (a .t4)) closed (i .before .loop .c + 1) (i .before .before .before .before .of-group .result) closed sums
+    (boxed (a .second + 1) (a .net .now)) closed (i .before .loop .c + 1) (i .before .before .before .before .of-group .result) closed sums
 
 gather-row-met : (t : ℕ) (c : gather-row-lts.Joined1 (callees t) (gather-row-at t) gather-row.Post gather-row-Inv-loop gather-row-μ-loop)
     → Next t (c .before) (c .if1 .m) (c .if1 .sums)
@@ -304,27 +304,27 @@ gather-row-met t c =
     (λ x.
     let e = x .0 .taken in
     let d : 2 ≡ first t i .args .left - 1 = omega arith in
-    rw (x .6, x .7) (
-      re-counted d (x .4 .ensures .0),
+    rw (x .5, x .6) (
+      re-counted d (x .3 .ensures .0),
       one-more _ _ _ _ _ _ _ _ _ _ (first t i .pre .1 .1) _ 2 e _ _ _ _ _ (i .before .loop .inv .2) (i .loop-test .taken) _ _
           (v .before .key .ensures) (v .weight-of .ensures) _ (ap (λ n. eqb (n - 1) (first t i .args .second)) e) _ _
           (v .before .before .before .chosen .ensures) (v .before .before .chosen2 .ensures) (boxed _ _)
           (box-same _ _ _ 2 _ _ _ _ _ _ _ (re-group _ e (i .before .before .before .before .before .group .ensures .0))
-          (v .before .before .before .before .share .ensures) (re-gap _ e (i .before .before .before .gap .ensures .0)) (size-three _) (x .2 .ensures))
-          _ (i .before .before .before .before .of-group .ensures) _ (x .4 .ensures .1),
+          (v .before .before .before .before .share .ensures) (re-gap _ e (i .before .before .before .gap .ensures .0)) (size-three _) (x .1 .ensures))
+          _ (i .before .before .before .before .of-group .ensures) _ (x .3 .ensures .1),
     ))
     (⊎-elim
     (λ x.
     let e = x .1 .taken in
     let d : 1 ≡ first t i .args .left - 1 = omega arith in
-    rw (x .7, x .8) (
-      re-counted d (x .5 .ensures .0),
+    rw (x .6, x .7) (
+      re-counted d (x .4 .ensures .0),
       one-more _ _ _ _ _ _ _ _ _ _ (first t i .pre .1 .1) _ 1 e _ _ _ _ _ (i .before .loop .inv .2) (i .loop-test .taken) _ _
           (v .before .key .ensures) (v .weight-of .ensures) _ (ap (λ n. eqb (n - 1) (first t i .args .second)) e) _ _
           (v .before .before .before .chosen .ensures) (v .before .before .chosen2 .ensures) (boxed _ _)
           (box-same _ _ _ 1 _ _ _ _ _ _ _ (re-group _ e (i .before .before .before .before .before .group .ensures .0))
-          (v .before .before .before .before .share .ensures) (re-gap _ e (i .before .before .before .gap .ensures .0)) (size-two _) (x .3 .ensures))
-          _ (i .before .before .before .before .of-group .ensures) _ (x .5 .ensures .1),
+          (v .before .before .before .before .share .ensures) (re-gap _ e (i .before .before .before .gap .ensures .0)) (size-two _) (x .2 .ensures))
+          _ (i .before .before .before .before .of-group .ensures) _ (x .4 .ensures .1),
     ))
     (λ x.
     let e = four _ (first t i .pre .1 .0) (first t i .pre .1 .1 .total) (x .0 .left) (x .1 .left) in
@@ -335,7 +335,7 @@ gather-row-met t c =
           (boxed _ _)
           (box-same _ _ _ _ _ _ _ _ _ _ _ (re-group _ (fewer t i) (i .before .before .before .before .before .group .ensures .0))
           (v .before .before .before .before .share .ensures) (re-gap _ (fewer t i) (i .before .before .before .gap .ensures .0))
-          (size-all _ _ _ _ _ (fewer t i) (i .before .before .before .before .of-group .ensures) (i .before .before .before .gap .ensures .0)) (x .3 .ensures))
+          (size-all _ _ _ _ _ (fewer t i) (i .before .before .before .before .of-group .ensures) (i .before .before .before .gap .ensures .0)) (x .2 .ensures))
           _ (i .before .before .before .before .of-group .ensures) _ (x .5 .ensures .1),
     )))
     (c .if1 .came)

@@ -39,31 +39,48 @@ put-requires-5 : tie.Need-put-requires-5
 put-requires-5 c κs = search needs
 
 tri-requires-6 : tie.Need-tri-requires-6
-tri-requires-6 c κs = let p = c .before .before .before .before .before .before .before .before .before .before .before .before .before .before .before .before .pre in (p .0, omega arith, omega arith, p .1)
+tri-requires-6 c κs =
+    let far = c .before .before .before .before .before .before .before .before .before .before .before .before in
+    let p = far .before .before .before .before .pre in
+    (p .0, omega arith, omega arith, p .1)
 
 put-requires-6 : tie.Need-put-requires-6
 put-requires-6 c κs = search needs
 
 tri-requires-7 : tie.Need-tri-requires-7
-tri-requires-7 c κs = let p = c .before .before .before .before .before .before .before .before .before .before .before .before .before .before .before .before .before .before .before .pre in (p .0, omega arith, omega arith, p .1)
+tri-requires-7 c κs =
+    let far = c .before .before .before .before .before .before .before .before .before .before .before .before in
+    let p = far .before .before .before .before .before .before .before .pre in
+    (p .0, omega arith, omega arith, p .1)
 
 put-requires-7 : tie.Need-put-requires-7
 put-requires-7 c κs = search needs
 
 tri-requires-8 : tie.Need-tri-requires-8
-tri-requires-8 c κs = let p = c .before .before .before .before .before .before .before .before .before .before .before .before .before .before .before .before .before .before .before .before .before .before .pre in (p .0, omega arith, omega arith, p .1)
+tri-requires-8 c κs =
+    let far = c .before .before .before .before .before .before .before .before .before .before .before .before in
+    let p = far .before .before .before .before .before .before .before .before .before .before .pre in
+    (p .0, omega arith, omega arith, p .1)
 
 put-requires-8 : tie.Need-put-requires-8
 put-requires-8 c κs = search needs
 
 tri-requires-9 : tie.Need-tri-requires-9
-tri-requires-9 c κs = let p = c .before .before .before .before .before .before .before .before .before .before .before .before .before .before .before .before .before .before .before .before .before .before .before .before .before .pre in (p .0, omega arith, omega arith, p .1)
+tri-requires-9 c κs =
+    let far = c .before .before .before .before .before .before .before .before .before .before .before .before in
+    let farther = far .before .before .before .before .before .before .before .before .before .before .before .before in
+    let p = farther .before .pre in
+    (p .0, omega arith, omega arith, p .1)
 
 put-requires-9 : tie.Need-put-requires-9
 put-requires-9 c κs = search needs
 
 tri-requires-10 : tie.Need-tri-requires-10
-tri-requires-10 c κs = let p = c .before .before .before .before .before .before .before .before .before .before .before .before .before .before .before .before .before .before .before .before .before .before .before .before .before .before .before .before .pre in (p .0, omega arith, omega arith, p .1)
+tri-requires-10 c κs =
+    let far = c .before .before .before .before .before .before .before .before .before .before .before .before in
+    let farther = far .before .before .before .before .before .before .before .before .before .before .before .before in
+    let p = farther .before .before .before .before .pre in
+    (p .0, omega arith, omega arith, p .1)
 
 put-requires-10 : tie.Need-put-requires-10
 put-requires-10 c κs = search needs

@@ -51,7 +51,10 @@ put-requires-5 : tie.Need-put-requires-5
 put-requires-5 c κs = search needs
 
 slide-requires-6 : tie.Need-slide-requires-6
-slide-requires-6 c κs = let p = c .before .before .before .before .before .before .before .before .before .before .before .before .before .before .before .before .before .pre in (p .0, omega (arith, p .1), omega (arith, p .1), p .3)
+slide-requires-6 c κs =
+    let far = c .before .before .before .before .before .before .before .before .before .before .before .before in
+    let p = far .before .before .before .before .before .pre in
+    (p .0, omega (arith, p .1), omega (arith, p .1), p .3)
 
 put-requires-6 : tie.Need-put-requires-6
 put-requires-6 c κs = search needs

@@ -4,7 +4,8 @@ use native.Mathlib.Omega.{arith}
 use borrow.Author.Needs.{needs}
 use Rattle.steps.specs.Layout.{before}
 use Rattle.steps.proofs.Fronts.{front}
-use Rattle.sums.proofs.Loading.{triangle-loaded, place-0, place-1, place-2, place-3, place-4, place-5, place-6, place-7, place-8, place-9, place-10, place-11, place-12, place-13, place-14}
+use Rattle.sums.proofs.Loading.{triangle-loaded, place-0, place-1, place-2, place-3, place-4, place-5, place-6, place-7}
+use Rattle.sums.proofs.Loading.{place-8, place-9, place-10, place-11, place-12, place-13, place-14}
 use Rattle.sums.proofs.load_tri.Statement.{statement}
 use Rattle.sums.proofs.load_tri.Tie as tie
 
@@ -78,10 +79,16 @@ returns c =
     (triangle-loaded l d 6 9 (st .pre .0) (st .pre .2) (rw e refl)))
 
 add-three : tie.Need-add-three
-add-three c = let p = c .before .before .before .before .before .before .before .before .before .before .before .before .before .before .before .before .before .before .before .pre in omega arith
+add-three c =
+    let far = c .before .before .before .before .before .before .before .before .before .before .before .before in
+    let p = far .before .before .before .before .before .before .before .pre in
+    omega arith
 
 sub-three : tie.Need-sub-three
-sub-three c = let p = c .before .before .before .before .before .before .before .before .before .before .before .before .before .before .before .before .before .before .before .pre in omega arith
+sub-three c =
+    let far = c .before .before .before .before .before .before .before .before .before .before .before .before in
+    let p = far .before .before .before .before .before .before .before .pre in
+    omega arith
 
 travel-requires-7 : tie.Need-travel-requires-7
 travel-requires-7 c κs = search needs
@@ -90,7 +97,10 @@ put-requires-7 : tie.Need-put-requires-7
 put-requires-7 c κs = search needs
 
 add-travel-2 : tie.Need-add-travel-2
-add-travel-2 c = let p = c .before .before .before .before .before .before .before .before .before .before .before .before .before .before .before .before .before .before .before .before .before .before .before .pre in omega arith
+add-travel-2 c =
+    let far = c .before .before .before .before .before .before .before .before .before .before .before .before in
+    let p = far .before .before .before .before .before .before .before .before .before .before .before .pre in
+    omega arith
 
 travel-requires-8 : tie.Need-travel-requires-8
 travel-requires-8 c κs = search needs
@@ -99,7 +109,11 @@ put-requires-8 : tie.Need-put-requires-8
 put-requires-8 c κs = search needs
 
 add-travel-3 : tie.Need-add-travel-3
-add-travel-3 c = let p = c .before .before .before .before .before .before .before .before .before .before .before .before .before .before .before .before .before .before .before .before .before .before .before .before .before .before .pre in omega arith
+add-travel-3 c =
+    let far = c .before .before .before .before .before .before .before .before .before .before .before .before in
+    let farther = far .before .before .before .before .before .before .before .before .before .before .before .before in
+    let p = farther .before .before .pre in
+    omega arith
 
 travel-requires-9 : tie.Need-travel-requires-9
 travel-requires-9 c κs = search needs
@@ -163,7 +177,11 @@ put-requires-11 : tie.Need-put-requires-11
 put-requires-11 c κs = search needs
 
 add-travel-4 : tie.Need-add-travel-4
-add-travel-4 c = let p = c .before .before .before .before .before .before .before .before .before .before .before .before .before .before .before .before .before .before .before .before .before .before .before .before .before .before .before .before .before .before .before .before .before .before .before .before .pre in omega arith
+add-travel-4 c =
+    let far = c .before .before .before .before .before .before .before .before .before .before .before .before in
+    let farther = far .before .before .before .before .before .before .before .before .before .before .before .before in
+    let p = farther .before .before .before .before .before .before .before .before .before .before .before .before .pre in
+    omega arith
 
 travel-requires-12 : tie.Need-travel-requires-12
 travel-requires-12 c κs = search needs
@@ -172,7 +190,12 @@ put-requires-12 : tie.Need-put-requires-12
 put-requires-12 c κs = search needs
 
 add-travel-5 : tie.Need-add-travel-5
-add-travel-5 c = let p = c .before .before .before .before .before .before .before .before .before .before .before .before .before .before .before .before .before .before .before .before .before .before .before .before .before .before .before .before .before .before .before .before .before .before .before .before .before .before .before .pre in omega arith
+add-travel-5 c =
+    let far = c .before .before .before .before .before .before .before .before .before .before .before .before in
+    let farther = far .before .before .before .before .before .before .before .before .before .before .before .before in
+    let farthest = farther .before .before .before .before .before .before .before .before .before .before .before .before in
+    let p = farthest .before .before .before .pre in
+    omega arith
 
 travel-requires-13 : tie.Need-travel-requires-13
 travel-requires-13 c κs = search needs
@@ -181,7 +204,12 @@ put-requires-13 : tie.Need-put-requires-13
 put-requires-13 c κs = search needs
 
 add-travel-6 : tie.Need-add-travel-6
-add-travel-6 c = let p = c .before .before .before .before .before .before .before .before .before .before .before .before .before .before .before .before .before .before .before .before .before .before .before .before .before .before .before .before .before .before .before .before .before .before .before .before .before .before .before .before .before .before .pre in omega arith
+add-travel-6 c =
+    let far = c .before .before .before .before .before .before .before .before .before .before .before .before in
+    let farther = far .before .before .before .before .before .before .before .before .before .before .before .before in
+    let farthest = farther .before .before .before .before .before .before .before .before .before .before .before .before in
+    let p = farthest .before .before .before .before .before .before .pre in
+    omega arith
 
 travel-requires-14 : tie.Need-travel-requires-14
 travel-requires-14 c κs = search needs
@@ -190,7 +218,12 @@ put-requires-14 : tie.Need-put-requires-14
 put-requires-14 c κs = search needs
 
 add-travel-7 : tie.Need-add-travel-7
-add-travel-7 c = let p = c .before .before .before .before .before .before .before .before .before .before .before .before .before .before .before .before .before .before .before .before .before .before .before .before .before .before .before .before .before .before .before .before .before .before .before .before .before .before .before .before .before .before .before .before .before .pre in omega arith
+add-travel-7 c =
+    let far = c .before .before .before .before .before .before .before .before .before .before .before .before in
+    let farther = far .before .before .before .before .before .before .before .before .before .before .before .before in
+    let farthest = farther .before .before .before .before .before .before .before .before .before .before .before .before in
+    let p = farthest .before .before .before .before .before .before .before .before .before .pre in
+    omega arith
 
 travel-requires-15 : tie.Need-travel-requires-15
 travel-requires-15 c κs = search needs

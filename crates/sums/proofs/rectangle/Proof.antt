@@ -42,7 +42,7 @@ of-group-requires c κs = search needs
 
 gather-row-requires : tie.Need-gather-row-requires
 gather-row-requires c κs =
-    let b = c .before in
+    let b = c .before .before in
     let i = b .before .before in
     let p = i .before .pre in (
       let some = p .0 in let more = i .if1 .left in omega arith,
@@ -56,7 +56,7 @@ same-length-2 c = search needs
 
 returns-2 : tie.Need-returns-2
 returns-2 c =
-    let b = c .before .before .before in
+    let b = c .before .before .before .before in
     let s = b .before .before .before in
     let q = rw (b .of-group .ensures) at (c .before .gather-row .ensures) in
     (q .0, box-done _ _ _ _ _ (s .args .surface .now) (c .before .gather-row .result) _ (s .pre .1 .total) _ (b .before .load-box .ensures) (q .1))
