@@ -165,7 +165,7 @@ static void put_word(uint8_t *at, uint32_t word)
     at[1] = (uint8_t)(word >> 8 & 255);
 }
 
-static unsigned long door_accepted, compose_accepted, tick_accepted, card_accepted;
+static unsigned long door_accepted, compose_accepted, tick_accepted, card_accepted, patch_accepted, sheet_accepted;
 
 static void at_the_door(unsigned long call)
 {
@@ -342,6 +342,88 @@ static void carded(unsigned long call)
     give_back();
 }
 
+static void patched(unsigned long call)
+{
+    const uint32_t n = (uint32_t)below(below(16) == 0 ? 6 : LEAN_PATCH_MOST_DEGREE + 1);
+    const uint32_t domain = (uint32_t)below(below(16) == 0 ? 6 : LEAN_PATCH_MOST_DEGREE + 1);
+    const size_t values = below(16) == 0 ? below(12) : (n + 1u) * (n + 2u) / 2;
+    const size_t numbers = 3 * ((domain + 1u) * (domain + 2u) / 2);
+    const size_t places = below(4) == 0 ? below(LEAN_PATCH_MOST_PLACES + 2) : LEAN_PATCH_MOST_PLACES;
+    const size_t words_length = below(8) == 0 ? below(5) : LEAN_PATCH_WORDS;
+    int32_t *surface = (int32_t *)block(values * sizeof(int32_t));
+    int32_t *path = (int32_t *)block(numbers * sizeof(int32_t));
+    int64_t *exact = (int64_t *)block(places * sizeof(int64_t));
+    int32_t *points = (int32_t *)block(places * sizeof(int32_t));
+    uint64_t *words = (uint64_t *)block(words_length * sizeof(uint64_t));
+    size_t count = 0;
+    size_t k;
+    uint32_t code;
+
+    for (k = 0; k < values; k++) {
+        surface[k] = number(-4096, 4096);
+    }
+    draw_path(path, 3, numbers);
+    code = lean_patch(n, domain, surface, values, path, numbers, exact, places, points, places, words, words_length);
+    if (code != (words_length < LEAN_PATCH_WORDS ? 1u : 0u)) {
+        wrong("another code of the patch", call);
+    }
+    if (code == 0) {
+        count = (size_t)words[2];
+        if ((words[0] == 0) != (count > 0) || count > places ||
+            !filled(words + LEAN_PATCH_WORDS, (words_length - LEAN_PATCH_WORDS) * sizeof *words)) {
+            wrong("the patch's words", call);
+        }
+        patch_accepted += words[0] == 0;
+    } else if (!filled(words, words_length * sizeof *words)) {
+        wrong("written without room", call);
+    }
+    if (!filled(exact + count, (places - count) * sizeof *exact) || !filled(points + count, (places - count) * sizeof *points)) {
+        wrong("written beyond the count", call);
+    }
+    give_back();
+}
+
+/* a pair with one accepted point, over and over, cut anywhere, to a state of zeros or to any state */
+static void sheeted(unsigned long call)
+{
+    static const uint8_t pair[] = {8, 0, 1, 0, 9, 9, 9, 9, 10, 0, 1, 0x80, 0, 0, 1, 0, 7, 0x80};
+    const size_t length = below(300);
+    const int begun = below(2) == 0;
+    uint8_t *held = (uint8_t *)block(LEAN_SHEET_HELD);
+    uint64_t *counts = (uint64_t *)block(LEAN_SHEET_COUNTS * sizeof(uint64_t));
+    uint64_t *refusals = (uint64_t *)block(LEAN_SHEET_REFUSALS * sizeof(uint64_t));
+    int64_t *span = (int64_t *)block(LEAN_SHEET_SPAN * sizeof(int64_t));
+    uint8_t *part = (uint8_t *)block(length);
+    size_t k;
+
+    if (!begun) {
+        memset(held, 0, LEAN_SHEET_HELD);
+        memset(counts, 0, LEAN_SHEET_COUNTS * sizeof *counts);
+        memset(refusals, 0, LEAN_SHEET_REFUSALS * sizeof *refusals);
+        memset(span, 0, LEAN_SHEET_SPAN * sizeof *span);
+    } else if (below(2) == 0) {
+        counts[0] = below(LEAN_SHEET_HELD + 3);
+    }
+    for (k = 0; k < length; k++) {
+        part[k] = pair[k % sizeof pair];
+    }
+    lean_sheet(held, counts, refusals, span, part, length);
+    for (k = counts[0] < LEAN_SHEET_HELD ? (size_t)counts[0] : LEAN_SHEET_HELD; k < LEAN_SHEET_HELD; k++) {
+        if (held[k] != 0) {
+            wrong("no zeros behind the pair that is held", call);
+        }
+    }
+    if (counts[2] > 1) {
+        wrong("another mark of a point", call);
+    }
+    if (!begun && (counts[0] != length % sizeof pair || counts[1] != 0 || refusals[0] != length / sizeof pair ||
+                   counts[2] != (length < sizeof pair ? 0u : 1u) || span[0] != (length < sizeof pair ? 0 : -32761) || span[1] != span[0])) {
+        wrong("another sheet", call);
+    }
+    sheet_accepted += counts[2] != 0;
+    give_back();
+}
+
 int main(int count, char **arguments)
 {
     unsigned long calls;
@@ -363,7 +445,7 @@ int main(int count, char **arguments)
         room[k] = (unsigned char *)at;
     }
     for (k = 0; k < calls; k++) {
-        switch (k % 4) {
+        switch (k % 6) {
         case 0:
             at_the_door(k);
             break;
@@ -373,15 +455,22 @@ int main(int count, char **arguments)
         case 2:
             ticked(k);
             break;
-        default:
+        case 3:
             carded(k);
+            break;
+        case 4:
+            patched(k);
+            break;
+        default:
+            sheeted(k);
         }
     }
-    if (calls >= 1000 && (door_accepted == 0 || compose_accepted == 0 || tick_accepted == 0 || card_accepted == 0)) {
+    if (calls >= 1000 && (door_accepted == 0 || compose_accepted == 0 || tick_accepted == 0 || card_accepted == 0 || patch_accepted == 0 ||
+                          sheet_accepted == 0)) {
         printf("some function never accepted\n");
         return 1;
     }
-    printf("%lu calls, seed %s, %s: accepted %lu at the door, %lu composed, %lu read, %lu on the card\n", calls, arguments[2],
-           arguments[1], door_accepted, compose_accepted, tick_accepted, card_accepted);
+    printf("%lu calls, seed %s, %s: accepted %lu at the door, %lu composed, %lu read, %lu on the card, %lu patches, %lu sheets\n", calls, arguments[2],
+           arguments[1], door_accepted, compose_accepted, tick_accepted, card_accepted, patch_accepted, sheet_accepted);
     return 0;
 }

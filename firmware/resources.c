@@ -123,6 +123,27 @@ static void call_card(void)
     }
 }
 
+/* the largest patch: n = 3, N = 3, every domain point balanced */
+static void call_patch(void)
+{
+    static const int32_t values_of[10] = {4096, -17, 300, -4096, 5, 2048, -1, 77, -2000, 901};
+    static int32_t domain[30];
+    static int64_t exact[LEAN_PATCH_MOST_PLACES];
+    static int32_t rounded[LEAN_PATCH_MOST_PLACES];
+    size_t k;
+
+    for (k = 0; k < 10; k++) {
+        domain[3 * k] = (int32_t)(k * 37 % 500);
+        domain[3 * k + 1] = (int32_t)(k * 61 % 500);
+        domain[3 * k + 2] = 1024 - domain[3 * k] - domain[3 * k + 1];
+    }
+    if (lean_patch(3, 3, values_of, 10, domain, 30, exact, LEAN_PATCH_MOST_PLACES, rounded, LEAN_PATCH_MOST_PLACES, words, LEAN_PATCH_WORDS) != 0 ||
+        words[0] != 0) {
+        printf("the patch is not accepted\n");
+        exit(1);
+    }
+}
+
 /* ---- the stack */
 
 static ucontext_t here, there;
@@ -161,7 +182,7 @@ static size_t used(void (*call)(void))
 int main(int count, char **arguments)
 {
     size_t door = 0, compose = 0, most;
-    size_t tick, card;
+    size_t tick, card, patch;
     size_t k;
 
     if (count == 2 && strcmp(arguments[1], "door") == 0) {
@@ -191,6 +212,8 @@ int main(int count, char **arguments)
     call_compose();
     tick = used(call_tick) - used(nothing);
     card = used(call_card) - used(nothing);
-    printf("stack, in bytes: door_reply %zu, lean_compose %zu, lean_tick %zu, lean_card %zu; at most %zu\n", door, compose, tick, card, most);
-    return door > most || compose > most || tick > most || card > most;
+    patch = used(call_patch) - used(nothing);
+    printf("stack, in bytes: door_reply %zu, lean_compose %zu, lean_tick %zu, lean_card %zu, lean_patch %zu; at most %zu\n", door, compose, tick,
+           card, patch, most);
+    return door > most || compose > most || tick > most || card > most || patch > most;
 }

@@ -48,6 +48,20 @@ uint32_t lean_compose(uint32_t form, uint32_t first, uint32_t second, uint32_t N
                       int64_t *high, size_t high_length, uint64_t *low, size_t low_length,
                       int32_t *points, size_t points_length, uint64_t *words, size_t words_length) LEAN_NONNULL;
 
+/* ---- the daily sheet, fed as it comes ----
+ *
+ * The state is yours, in four arrays of just these sizes; all zeros have taken nothing. */
+enum {
+    LEAN_SHEET_HELD = 256,      /* the bytes of the pair that is not whole yet, zeros behind them */
+    LEAN_SHEET_COUNTS = 3,      /* how many bytes there are from its start on, odd replies, and 1 where there was a point */
+    LEAN_SHEET_REFUSALS = 11,   /* how many of the other replies have each number 0 to 10 */
+    LEAN_SHEET_SPAN = 2         /* the least and the most accepted point, where there was one */
+};
+
+/* Takes the next part of a trace, of any length, also none. Parts one after the other, cut anywhere, leave the state that the uncut
+ * trace leaves. `held` has LEAN_SHEET_HELD places, `counts` LEAN_SHEET_COUNTS and so on; no two of the arrays overlap. */
+void lean_sheet(uint8_t *held, uint64_t *counts, uint64_t *refusals, int64_t *span, const uint8_t *part, size_t part_length) LEAN_NONNULL;
+
 /* ---- a composed net, read at a tick */
 
 enum {
@@ -99,6 +113,34 @@ enum {
 
 uint32_t lean_card(uint32_t m, const int32_t *surface, size_t surface_length, uint32_t line, double first, double second,
                    double *numerators, size_t numerators_length, uint64_t *words, size_t words_length) LEAN_NONNULL;
+
+/* ---- patches on patches: a triangular piece of a triangular surface, the piece curved, exactly, in whole numbers */
+
+enum {
+    LEAN_PATCH_WORDS = 3,        /* the answer's words: number, place, count */
+    LEAN_PATCH_MOST_DEGREE = 3,  /* of the surface, and of the domain */
+    LEAN_PATCH_MOST_PLACES = 55  /* the places of the largest answer: n = 3, N = 3 */
+};
+
+/* n        the surface's degree, at most 3: (n+1)(n+2)/2 control values
+ * N        the domain's degree, at most 3: (N+1)(N+2)/2 domain points, L = n * N
+ * surface  control values in 0.01 mm, -4096 to 4096
+ * path     x, y, z of each domain point in 1/1024, 0 to 1024, which add up to 1024
+ * exact    the numerator of each place (i, j, k) of the answer, i + j + k = L: over L!/(i! j! k!) * 1024^n it is the exact point
+ * points   the rounded points in 0.01 mm, a half going away from zero
+ * words    number, place and count of the answer: 0, 0, (L+1)(L+2)/2 where it is accepted; else the refusal's number, its place, 0
+ *
+ * Every net stands in this order: i from 0, inside it j from 0, k what they leave of the degree; x goes with i, y with j, z with k.
+ *
+ * The number, in the order of judgement: 2 DEGREE (n or N above 3), 3 SURFACE and 4 PATH (another count than the degrees ask for),
+ * 5 ROOM (exact or points has fewer places than the answer has points), 6 VALUE (a control value beyond its bounds: the place is the
+ * least such index), 7 PARAMETER (likewise a path number), 8 BALANCE (x + y + z is not 1024: the least such point's number).
+ *
+ * Accepted, so many places of exact and points are written as the answer has points, and every later place stays. Refused, neither
+ * changes. Returns 0; or 1 where words has fewer than three places, and then nothing at all is written. */
+uint32_t lean_patch(uint32_t n, uint32_t N, const int32_t *surface, size_t surface_length, const int32_t *path, size_t path_length,
+                    int64_t *exact, size_t exact_length, int32_t *points, size_t points_length,
+                    uint64_t *words, size_t words_length) LEAN_NONNULL;
 
 #ifdef __cplusplus
 }

@@ -9,6 +9,7 @@ mod binomials;
 mod clock;
 mod lent;
 mod night;
+mod patches;
 mod plain;
 mod rides;
 mod ticks;
@@ -114,6 +115,11 @@ fn main() {
             ticks::report(&mut rng, &runs);
         }
         ["tick-once"] => print(&ticks::once(&mut rng)),
+        ["patch"] => {
+            let runs: [_; RUNS] = array::from_fn(|_| run("patch-once"));
+            patches::report(&mut rng, &runs);
+        }
+        ["patch-once"] => print(&patches::once(&mut rng)),
         ["memory", ..] => night::memory(&words[1..], &short(&mut rng)),
         _ => panic!("{} is not measured", words.join(" ")),
     }

@@ -1,11 +1,13 @@
-//! A night: calls and megabytes per second of the proved replay, beside the second program's on the same bytes, and the
-//! memory that the program takes for a short trace and for a long one.
+//! A night: calls and megabytes per second of the proved replay and the proved sheet, beside the second program's on the same bytes,
+//! and the memory that a program takes for a short trace and for a long one.
 
 use crate::rides::Ride;
 use crate::{clock, Spread};
 use second::door::{door, ROOM};
-use second::replay::{replay, Five};
+use second::edition::TODAY;
+use second::replay::replay;
 use second::sample::traces::Recorder;
+use second::sheet::{sheet, Sheet};
 use std::fs::{self, File};
 use std::hint::black_box;
 use std::io::{BufWriter, Read, Write};
@@ -14,9 +16,25 @@ use std::{array, env, process};
 
 const ROUNDS: usize = 7;
 
-type Replay = fn(&[u8]) -> Five;
+/// What reads a trace, and tells how many calls it has.
+type Reads = fn(&[u8]) -> u64;
 
-const PROGRAMS: [(&str, Replay); 2] = [("replay", native::replay), ("second", replay)];
+const PROGRAMS: [(&str, Reads); 4] = [
+    ("replay", |trace| native::replay(trace).0),
+    ("sheet", |trace| replies(&native_sheet(trace))),
+    ("second's replay", |trace| replay(trace).0),
+    ("second's sheet", |trace| replies(&sheet(TODAY.longest, trace))),
+];
+
+fn native_sheet(trace: &[u8]) -> Sheet {
+    let mut day = native::Day::default();
+    day.take(trace);
+    day.sheet()
+}
+
+fn replies(sheet: &Sheet) -> u64 {
+    sheet.odd + sheet.refusals.iter().sum::<u64>()
+}
 
 /// The traces: accepted rides, each with an age, and their replies; and the recorder's mixture, most of it refused.
 fn traces(rides: &[Ride]) -> [(&'static str, Vec<u8>); 2] {
@@ -42,16 +60,16 @@ fn exchange(ride: &Ride) -> Vec<u8> {
 }
 
 /// One run: the median time of each program on each trace, in nanoseconds a call.
-pub fn once(rides: &[Ride]) -> [f64; 4] {
+pub fn once(rides: &[Ride]) -> [f64; 2 * PROGRAMS.len()] {
     let traces = traces(rides);
     array::from_fn(|at| {
-        let (_, replay) = PROGRAMS[at % 2];
-        let trace = &traces[at / 2].1;
-        let calls = replay(trace).0;
+        let (_, read) = PROGRAMS[at % PROGRAMS.len()];
+        let trace = &traces[at / PROGRAMS.len()].1;
+        let calls = read(trace);
         Spread::of((0..ROUNDS).map(|_| {
             let start = clock::used();
             for _ in 0..5 {
-                black_box(replay(black_box(trace)));
+                black_box(read(black_box(trace)));
             }
             (clock::used() - start) / (5 * calls) as f64
         }))
@@ -68,13 +86,14 @@ pub fn report(rides: &[Ride], runs: &[Vec<f64>]) {
     for (of, (name, trace)) in traces(rides).iter().enumerate() {
         let five = replay(trace);
         assert_eq!(native::replay(trace), five, "{name}");
+        assert_eq!(native_sheet(trace), sheet(TODAY.longest, trace), "{name}");
         let (calls, _, differ, ..) = five;
         let size = trace.len() as f64 / calls as f64;
         println!("\n{name}: {calls} calls, {differ} of them differ, {size:.1} bytes a call");
         for (at, (program, _)) in PROGRAMS.iter().enumerate() {
-            let rate = Spread::of(runs.iter().map(|times| 1e9 / times[2 * of + at]));
+            let rate = Spread::of(runs.iter().map(|times| 1e9 / times[PROGRAMS.len() * of + at]));
             println!(
-                "{program:<8} {:>9.0} calls/s ({:.0} to {:.0}), {:>6.1} MB/s, {:>5.0} ns a call",
+                "{program:<16} {:>9.0} calls/s ({:.0} to {:.0}), {:>6.1} MB/s, {:>5.0} ns a call",
                 rate.median,
                 rate.least,
                 rate.most,
@@ -115,7 +134,7 @@ fn resident(child: &Child) -> i64 {
     usage.resident
 }
 
-/// Runs the replay program on a trace of one pair, then on one of 1 GB, and prints its greatest resident size.
+/// Runs a program on a trace of one pair, then on one of 1 GB, and prints its greatest resident size.
 pub fn memory(program: &[&str], rides: &[Ride]) {
     let file = env::temp_dir().join(format!("night-{}", process::id()));
     let (_, piece) = &traces(rides)[1];

@@ -1,9 +1,10 @@
-//! The proved composer, door, replay, reading at a tick and card, as Rust calls them: none has a condition on its arguments, and slices
+//! The proved composer, door, replay, reading at a tick, card and patches, as Rust calls them: none has a condition on its arguments, and slices
 //! of which one is exclusive never overlap, so all are safe. Each program links only the archive that it uses, so each is
 //! compiled where it is called.
 
 use second::card::{Carded, Part, Record};
 use second::replay::Five;
+use second::sheet::Sheet;
 use second::tick::Tick;
 use second::Answer;
 
@@ -30,6 +31,14 @@ extern "C" {
     ) -> u32;
     fn door_reply(request: *const u8, request_length: usize, reply: *mut u8, reply_length: usize) -> usize;
     fn lean_replay(trace: *const u8, trace_length: usize, words: *mut u64, words_length: usize) -> u32;
+    fn lean_sheet(
+        held: *mut [u8; 256],
+        counts: *mut [u64; 3],
+        refusals: *mut [u64; 11],
+        span: *mut [i64; 2],
+        part: *const u8,
+        part_length: usize,
+    );
     fn lean_tick(points: *const i32, points_length: usize, k: u32, words: *mut i64, words_length: usize) -> u32;
     fn lean_card(
         m: u32,
@@ -40,6 +49,20 @@ extern "C" {
         second: f64,
         numerators: *mut f64,
         numerators_length: usize,
+        words: *mut u64,
+        words_length: usize,
+    ) -> u32;
+    fn lean_patch(
+        n: u32,
+        domain: u32,
+        surface: *const i32,
+        surface_length: usize,
+        path: *const i32,
+        path_length: usize,
+        exact: *mut i64,
+        exact_length: usize,
+        points: *mut i32,
+        points_length: usize,
         words: *mut u64,
         words_length: usize,
     ) -> u32;
@@ -103,6 +126,40 @@ pub fn replay(trace: &[u8]) -> Five {
     (calls, same, differ, first, rest)
 }
 
+/// The state of a daily sheet; zeros have taken nothing.
+#[derive(Clone, Debug, PartialEq, Eq)]
+pub struct Day {
+    held: [u8; 256],
+    counts: [u64; 3],
+    refusals: [u64; 11],
+    span: [i64; 2],
+}
+
+impl Default for Day {
+    fn default() -> Self {
+        Day { held: [0; 256], counts: [0; 3], refusals: [0; 11], span: [0; 2] }
+    }
+}
+
+impl Day {
+    /// Takes the next part.
+    #[inline]
+    pub fn take(&mut self, part: &[u8]) {
+        let Day { held, counts, refusals, span } = self;
+        unsafe { lean_sheet(held, counts, refusals, span, part.as_ptr(), part.len()) }
+    }
+
+    /// The sheet of what has come.
+    pub fn sheet(&self) -> Sheet {
+        let [least, most] = self.span.map(|point| i16::try_from(point).expect("a point has two bytes"));
+        Sheet {
+            odd: self.counts[1],
+            refusals: self.refusals,
+            span: (self.counts[2] != 0).then_some((least, most)),
+        }
+    }
+}
+
 /// The curve of these points, read at k/1024.
 #[inline]
 pub fn tick(points: &[i32], k: u32) -> Tick {
@@ -143,4 +200,36 @@ pub fn card(m: u32, surface: &[i32], part: Part) -> Carded {
         place,
         record: Record { numerators, count },
     }
+}
+
+/// Answers one patch: a triangular surface of degree `n` on a triangular domain of degree `domain`.
+#[inline]
+pub fn patch(
+    n: u32,
+    domain: u32,
+    surface: &[i32],
+    path: &[i32],
+    exact: &mut [i64],
+    points: &mut [i32],
+) -> Answer {
+    let mut words = [0; 3];
+    let code = unsafe {
+        lean_patch(
+            n,
+            domain,
+            surface.as_ptr(),
+            surface.len(),
+            path.as_ptr(),
+            path.len(),
+            exact.as_mut_ptr(),
+            exact.len(),
+            points.as_mut_ptr(),
+            points.len(),
+            words.as_mut_ptr(),
+            words.len(),
+        )
+    };
+    assert_eq!(code, 0, "three words are enough");
+    let [number, place, count] = words.map(|word: u64| word as u32);
+    Answer { number, place, count }
 }

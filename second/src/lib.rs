@@ -35,6 +35,7 @@ pub mod salvage;
 pub mod sample;
 pub mod shape;
 pub mod sheet;
+pub mod through;
 pub mod tick;
 pub mod tick_line;
 pub mod words;

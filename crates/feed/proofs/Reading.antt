@@ -2,21 +2,22 @@
 -- 128 bytes, as an equation. Parts one after the other, cut anywhere, give what the uncut bytes give; a pair that lies whole
 -- in a part may be gathered at once. Assumes nothing.
 use mathlib.Core.Path.{_≡_, refl, sym, ap, _∙_}
-use mathlib.Core.Bool.{Bool, true, false, _&&_}
+use mathlib.Core.Bool.{Bool, true, false, cond, _&&_}
 use mathlib.Core.List.{List, [], _∷_, _++_, append-nil, append-assoc}
-use Prim.Native.Nat.{ℕ, _+_, _-_, _≤_, _<_, min}
+use Prim.Native.Nat.{ℕ, suc, _+_, _-_, _≤_, _<_, min}
+use native.Mathlib.Nat.{zero-add}
 use native.Mathlib.Numerals.{add-one}
 use native.Mathlib.Omega.{arith}
 use lib.Dec.{ltb, leb, eqb}
 use lib.ListN.{length, take, drop, getD, set, length-append, length-take, length-drop, length-set}
 use lib.Seq.{length-take-le, take-suc, take-suc-set, take-all, take-at, take-append-le, set-out}
-use borrow.Author.Tests.{lt-ltb, le-ltb, ltb-true, ltb-false, leb-true, leb-false, eqb-true, eqb-false, ne-eqb}
+use borrow.Author.Tests.{lt-ltb, le-ltb, ltb-true, ltb-false, leb-true, leb-false, eqb-true, eqb-false, eq-eqb, ne-eqb}
 use Rattle.wire.specs.Start.{behind}
 use Rattle.feed.specs.declared.Turn.{Turn}
 use Rattle.pairs.specs.Cut.{Pair, startsPair, pairIn, pairSize, cutIn, cut}
 use Rattle.feed.specs.Parts.{fed, fedParts, uncut}
 use Rattle.feed.specs.declared.Handed.{Handed}
-use Rattle.feed.specs.Feed.{capped, folded, heldRoom, Feed, blank, stepped, feedOf, zeros, heldOf, feedIn, Puts, ahead}
+use Rattle.feed.specs.Feed.{capped, folded, howMany, heldRoom, Feed, blank, stepped, feedOf, zeros, heldOf, feedIn, Puts, ahead}
 use Rattle.feed.specs.Feed.{Leaves, Hands, afterByte, afterPair, afterTurn, given}
 use Rattle.pairs.proofs.Cutting.{both, not-both-ways, left-starts-none, cut-more, cut-none, cut-one, just-whole}
 use Rattle.pairs.proofs.Cutting.{none-so-long, Alone, front-pair}
@@ -40,6 +41,16 @@ module _ {A : Type 0} (add : A → Pair → A) (f : List Pair → A)
 
   pub folded-is : (ps : List Pair) → folded add (f []) ps ≡ f ps
   folded-is ps = folded-on [] ps
+
+pub how-many-more : (test : Pair → Bool) (pairs : List Pair) (p : Pair)
+    → howMany test (pairs ++ p ∷ []) ≡ howMany test pairs + cond (test p) 1 0
+unfolding howMany
+how-many-more test [] p = sym (zero-add (cond (test p) 1 0))
+how-many-more test (q ∷ pairs) p = by (test q) _ _ _ (how-many-more test pairs p)
+  where
+    by : (t : Bool) (m n k : ℕ) → m ≡ n + k → cond t (suc m) m ≡ cond t (suc n) n + k
+    by true m n k e = omega arith
+    by false m n k e = e
 
 -- ---- a byte more
 
@@ -231,6 +242,16 @@ module _ {most : ℕ} {held : List ℕ} {rest b : ℕ} {held′ : List ℕ} {tur
       moves-whole : (a′ : A) → turn .whole ≡ true → a′ ≡ add a (pairIn (take (turn .rest) held′))
           → Moves (stepped most add) (feedIn held rest a) part (feedIn held′ 0 a′) 1
       moves-whole a′ e gave = record { some = omega arith; within = omega arith; fed-is = front (rw gave (put-whole e)) }
+
+-- what a fold has when a turn handed on nothing, and when it handed on a pair
+module _ {A : Type 0} (add : A → Pair → A) (a : A) (held : List ℕ) (size : ℕ) where
+  pub given-none : size ≡ 0 → a ≡ given add a held size
+  unfolding given
+  given-none e = rw (eq-eqb size 0 e)
+
+  pub given-pair : {b : A} → (size ≡ 0 → ⊥) → b ≡ add a (pairIn (take size held)) → b ≡ given add a held size
+  unfolding given
+  given-pair some e = rw (ne-eqb size 0 some) e
 
 -- a turn, from an array, feeds what it takes of a part
 abbrev pub Turns : {A : Type 0} → ℕ → (A → Pair → A) → A → List ℕ → ℕ → List ℕ → List ℕ → Handed → Type 0

@@ -1,9 +1,9 @@
 -- Any fold of the pairs of a trace, and the feed that gathers it a byte at a time. What a byte does is defined for every
 -- feed, also for one that no reading makes. That a feed gathers the fold is in proofs/Reading.antt. Assumes nothing.
 use mathlib.Core.Path.{_≡_}
-use mathlib.Core.Bool.{cond, _&&_}
+use mathlib.Core.Bool.{Bool, cond, _&&_}
 use mathlib.Core.List.{List, [], _∷_, _++_}
-use Prim.Native.Nat.{ℕ, _+_, _-_, _^_, _<_, min}
+use Prim.Native.Nat.{ℕ, suc, _+_, _-_, _^_, _<_, min}
 use lib.Dec.{ltb, leb, eqb}
 use lib.ListN.{length, take, drop, set, replicate}
 use Rattle.pairs.specs.Cut.{Pair, startsPair, pairIn, pairSize, cut}
@@ -19,6 +19,11 @@ capped n = min n (2 ^ 64 - 1)
 unfoldable pub folded : {A : Type 0} → (A → Pair → A) → A → List Pair → A
 folded add a [] = a
 folded add a (pair ∷ pairs) = folded add (add a pair) pairs
+
+-- how many pairs there are of which the test is true
+unfoldable pub howMany : (Pair → Bool) → List Pair → ℕ
+howMany test [] = 0
+howMany test (pair ∷ pairs) = cond (test pair) (suc (howMany test pairs)) (howMany test pairs)
 
 -- ---- a byte at a time
 

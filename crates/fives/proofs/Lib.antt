@@ -1,4 +1,3 @@
 -- Laws of the five numbers and of their lines. Assumes nothing.
 pub mod Numbers
-pub mod Telling
 pub mod Promises

@@ -4,17 +4,17 @@ use mathlib.Core.Path.{_≡_, refl, sym, ap, _∙_}
 use mathlib.Core.Bool.{Bool, true, false, not, cond}
 use mathlib.Core.List.{List, [], _∷_, _++_}
 use Prim.Native.Nat.{ℕ, zero, suc, _+_, _^_, _≤_, _<_}
-use native.Mathlib.Nat.{zero-add, add-zero}
+use native.Mathlib.Nat.{add-zero}
 use native.Mathlib.Omega.{arith}
 use lib.Dec.{eqb, eqb·suc-zero}
 use lib.ListN.{length, length-append}
 use borrow.Author.Tests.{eqb-true, eq-eqb, ne-eqb}
 use Rattle.fives.specs.declared.Tally.{Tally}
-use Rattle.feed.specs.Feed.{capped, folded}
+use Rattle.feed.specs.Feed.{capped, folded, howMany}
 use Rattle.pairs.specs.Cut.{Pair, cut}
-use Rattle.fives.specs.Replay.{sameBytes, agrees, differs, howMany, firstFrom, five, cappedFive}
+use Rattle.fives.specs.Replay.{sameBytes, agrees, differs, firstFrom, five, cappedFive}
 use Rattle.fives.specs.Count.{tallyOf, counted, counts, noPairs}
-use Rattle.feed.proofs.Reading.{folded-is}
+use Rattle.feed.proofs.Reading.{folded-is, how-many-more}
 use Rattle.pairs.proofs.Cutting.{both, Cuts, end, next, cuts, shorter}
 
 -- ---- byte for byte
@@ -36,16 +36,6 @@ bytes-same [] = refl
 bytes-same (a ∷ s) = rw (eq-eqb a a refl, bytes-same s)
 
 -- ---- one pair more
-
-how-many-more : (test : Pair → Bool) (pairs : List Pair) (p : Pair)
-    → howMany test (pairs ++ p ∷ []) ≡ howMany test pairs + cond (test p) 1 0
-unfolding howMany
-how-many-more test [] p = sym (zero-add (cond (test p) 1 0))
-how-many-more test (q ∷ pairs) p = by (test q) _ _ _ (how-many-more test pairs p)
-  where
-    by : (t : Bool) (m n k : ℕ) → m ≡ n + k → cond t (suc m) m ≡ cond t (suc n) n + k
-    by true m n k e = omega arith
-    by false m n k e = e
 
 -- the number of the first, where there was none before and one comes as number n
 abbrev firstWith : Bool → ℕ → ℕ → ℕ

@@ -5,8 +5,8 @@ use Prim.Native.Nat.{ℕ, _+_}
 use lib.Dec.{eqb}
 use lib.ListN.{length}
 use Rattle.pairs.specs.Cut.{Pair}
-use Rattle.feed.specs.Feed.{capped}
-use Rattle.fives.specs.Replay.{agrees, differs, howMany, firstFrom}
+use Rattle.feed.specs.Feed.{capped, howMany}
+use Rattle.fives.specs.Replay.{agrees, differs, firstFrom}
 use Rattle.fives.specs.declared.Tally.{Tally}
 
 -- the numbers of pairs

@@ -7,9 +7,10 @@ use lib.ListN.{replicate}
 use Rattle.wire.specs.Words.{wordAt}
 use Rattle.wire.specs.Start.{isLength, lengthField, startsRecord, recordIn, behind}
 use Rattle.pairs.specs.Cut.{longestRecord, startsPair, pairIn, cutIn, cut}
+use Rattle.feed.specs.Feed.{howMany}
 use Rattle.spell.specs.Decimal.{digitsOf, digits, named}
 use Rattle.fives.specs.declared.Five.{Five}
-use Rattle.fives.specs.Replay.{sameBytes, agrees, differs, howMany, firstFrom, five}
+use Rattle.fives.specs.Replay.{sameBytes, agrees, differs, firstFrom, five}
 use Rattle.fives.specs.Lines.{fiveLines}
 
 unfoldable pub echo : List ℕ → List ℕ

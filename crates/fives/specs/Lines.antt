@@ -1,12 +1,7 @@
 -- The five lines as bytes: "calls n", "same n", "differ n", "first n", "rest n". Assumes nothing.
-use mathlib.Core.Path.{_≡_}
-use mathlib.Core.Bool.{cond}
 use mathlib.Core.List.{List, [], _∷_, _++_}
-use Prim.Native.Nat.{ℕ, _≤_}
-use lib.Dec.{ltb}
-use lib.ListN.{length}
-use lib.Seq.{sets}
-use Rattle.spell.specs.Decimal.{named}
+use Prim.Native.Nat.{ℕ}
+use Rattle.spell.specs.Decimal.{named, Told as ToldOf}
 use Rattle.fives.specs.declared.Five.{Five}
 
 -- `calls`, `same`, `differ`, `first`, `rest`
@@ -23,7 +18,5 @@ abbrev pub linesRoom : ℕ
 linesRoom = 134
 
 -- "nothing is written and 0 is answered" where there is no room for them; otherwise every later byte stays
-pub record Told (f : Five) (out : List ℕ) (count : ℕ) (out′ : List ℕ) : Type 0 where
-  pub counted : count ≡ cond (ltb (length out) linesRoom) 0 (length (fiveLines f))
-  pub written : out′ ≡ cond (ltb (length out) linesRoom) out (sets out 0 (fiveLines f))
-  pub within : count ≤ length out′
+abbrev pub Told : Five → List ℕ → ℕ → List ℕ → Type 0
+Told f = ToldOf linesRoom (fiveLines f)

@@ -6,7 +6,7 @@ use Prim.Native.Nat.{ℕ, suc}
 use lib.Dec.{eqb}
 use lib.ListN.{length}
 use Rattle.pairs.specs.Cut.{Pair, cut}
-use Rattle.feed.specs.Feed.{capped}
+use Rattle.feed.specs.Feed.{capped, howMany}
 use Rattle.fives.specs.declared.Five.{Five}
 
 -- byte for byte, over the whole length
@@ -22,11 +22,6 @@ agrees door pair = sameBytes (door (pair .request)) (pair .reply)
 
 unfoldable pub differs : (List ℕ → List ℕ) → Pair → Bool
 differs door pair = not (agrees door pair)
-
--- how many there are of which the test is true
-unfoldable pub howMany : (Pair → Bool) → List Pair → ℕ
-howMany test [] = 0
-howMany test (pair ∷ pairs) = cond (test pair) (suc (howMany test pairs)) (howMany test pairs)
 
 -- the number of the first of which the test is true, where the next one is number k; 0 where there is none
 unfoldable pub firstFrom : ℕ → (Pair → Bool) → List Pair → ℕ

@@ -7,7 +7,8 @@ use trace::seek::Seeker;
 ghost use mathlib.Core.Path.{_≡_};
 ghost use Rattle.tally.specs.Read.{afterPart};
 ghost use Rattle.trace.specs.Seek.{soughtIn, seekerOfPair};
-ghost use Rattle.night.specs.Reading.{Took, Replays};
+ghost use Rattle.reading.specs.Parts.{Took};
+ghost use Rattle.night.specs.Reading.{Replays};
 
 // The input and the reader behind a part, and how many bytes came.
 struct Night {

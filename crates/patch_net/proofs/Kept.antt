@@ -20,12 +20,12 @@ use Rattle.patch_net.proofs.Half.{at-place}
 use Rattle.patch_net.proofs.Standing.{index-at, indices-length, place-inside}
 
 -- ---- an array afterwards
-map-at : (f : Index → ℤ) (l : List Index) (d : Index) (R : ℕ) → R < length l → getD (map f l) R (pos 0) ≡ f (getD l R d)
+pub map-at : (f : Index → ℤ) (l : List Index) (d : Index) (R : ℕ) → R < length l → getD (map f l) R (pos 0) ≡ f (getD l R d)
 map-at f [] d R h = absurd (omega arith)
 map-at f (a ∷ l) d zero h = refl
 map-at f (a ∷ l) d (suc R) h = map-at f l d R (omega arith)
 
-after-none : (values lent : List ℤ) → afterwards 0 values lent ≡ lent
+pub after-none : (values lent : List ℤ) → afterwards 0 values lent ≡ lent
 unfolding afterwards
 after-none values lent = refl
 

@@ -13,7 +13,7 @@ use lib.ListN.{length, getD, length-append, List·getD-append}
 use lib.Seq.{getD-append-add}
 use borrow.Author.Tests.{eq-eqb, ne-eqb}
 use Rattle.net.specs.Net.{rowStart}
-use Rattle.patch_net.specs.Patch.{Index, index, row, rows, indices, indexAt, places}
+use Rattle.patch_net.specs.Patch.{Index, index, row, rows, indices, indexAt, nextOf, places}
 use Rattle.patch_net.proofs.Indices.{degree}
 
 abbrev none : Index
@@ -120,6 +120,13 @@ places-most d m h =
     let two : d + 2 ≤ m + 2 = omega arith in
     omega (arith, mul-le-mul one two, div-add-mod x 2, div-add-mod y 2, mod-lt x {m = 2} (omega arith), mod-lt y {m = 2} (omega arith))
 
+pub places-few : (N : ℕ) → N ≤ 3 → places N ≤ 10
+unfolding places
+places-few N h = places-most N 3 h
+
+pub places-some : (d : ℕ) → 0 < places d
+places-some d = let i = place-inside d (index 0 0 d) (omega arith) in omega arith
+
 -- ---- one index after the other
 -- t is the index of degree d at a place
 pub record Stands (d place : ℕ) (t : Index) : Type 0 where
@@ -136,10 +143,6 @@ stands-first d = record { whole = omega arith; here = rw (start-zero d) }
 start-last : (d i : ℕ) → rowStart d d + 1 ≡ length (rows i d)
 start-last zero i = rw (rows-zero i, row-length i 0 0, start-zero 0)
 start-last (suc d) i = omega (arith, start-suc d d, rows-length-suc i d, start-last d (suc i))
-
--- in a row j is one more; where a row ends, i is, and j begins at 0
-unfoldable pub nextOf : Index → Index
-nextOf t = cond (eqb (t .k) 0) (index (t .i + 1) 0 (t .j - 1)) (index (t .i) (t .j + 1) (t .k - 1))
 
 start-next : (d i : ℕ) → rowStart d (i + 1) ≡ rowStart d i + (d - i + 1)
 unfolding rowStart
@@ -162,3 +165,11 @@ stands-next d place t s more = go (ℕ-discrete (t .k) 0) (ℕ-discrete (t .j) 0
         absurd (omega (arith, rw i at e, start-last d 0, indices-length d))
     go (yes z) (no y) = rw (eq-eqb (t .k) 0 z) (record { whole = omega arith; here = rw (start-next d (t .i)) (omega arith) })
     go (no z) y = rw (ne-eqb (t .k) 0 z) (record { whole = omega arith; here = omega arith })
+
+-- at every place of a net
+pub stands-all : (d place : ℕ) → place < places d → Stands d place (indexAt d place)
+stands-all d zero h = rw (stands-at d 0 (index 0 0 d) (stands-first d)) (stands-first d)
+stands-all d (suc place) h =
+    let next : Stands d (suc place) (nextOf (indexAt d place)) =
+    rw (add-one place) at (stands-next d place (indexAt d place) (stands-all d place (omega arith)) (omega arith)) in
+    rw (stands-at d (suc place) (nextOf (indexAt d place)) next) next

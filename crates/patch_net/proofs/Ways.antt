@@ -45,7 +45,10 @@ ways-pascal n i j I J =
     across : Dec (n < I - i)
         → chooseFrom n i I * chooseFrom (suc n - (I - i)) j J
         ≡ chooseFrom n i I * chooseFrom (n - (I - i)) (suc j) J + chooseFrom n i I * chooseFrom (n - (I - i)) j J
-    across (yes h) = rw (none-past n i I h, zero-mul (chooseFrom (suc n - (I - i)) j J), zero-mul (chooseFrom (n - (I - i)) (suc j) J), zero-mul (chooseFrom (n - (I - i)) j J))
+    across (yes h) =
+        rw (none-past n i I h)
+        (zero-mul (chooseFrom (suc n - (I - i)) j J)
+        ∙ sym (ap₂ _+_ (zero-mul (chooseFrom (n - (I - i)) (suc j) J)) (zero-mul (chooseFrom (n - (I - i)) j J))))
     across (no h) =
         let e : suc n - (I - i) ≡ suc (n - (I - i)) = omega arith in
         ap (λ m. chooseFrom n i I * chooseFrom m j J) e ∙ ap (λ x. chooseFrom n i I * x) (chooseFrom-pascal (n - (I - i)) j J)

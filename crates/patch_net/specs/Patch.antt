@@ -1,6 +1,9 @@
 -- One patch as it is asked, and the order of its numbers: "all nets in 01's triangular order". Assumes nothing.
+use mathlib.Core.Path.{_≡_, refl}
+use mathlib.Core.Bool.{cond}
 use mathlib.Core.List.{List, [], _∷_, _++_}
-use Prim.Native.Nat.{ℕ, zero, suc, _+_, _*_, _/_}
+use Prim.Native.Nat.{ℕ, zero, suc, _+_, _*_, _-_, _/_}
+use lib.Dec.{eqb}
 use lib.IntN.{ℤ, pos}
 use lib.ListN.{getD}
 use Rattle.net.specs.Net.{Net, rowStart}
@@ -49,9 +52,18 @@ rows i (suc rest) = row i 0 (suc rest) ++ rows (suc i) rest
 unfoldable pub indices : ℕ → List Index
 indices d = rows 0 d
 
+-- written out for degree 2
+pub order : indices 2 ≡ index 0 0 2 ∷ index 0 1 1 ∷ index 0 2 0 ∷ index 1 0 1 ∷ index 1 1 0 ∷ index 2 0 0 ∷ []
+unfolding row rows indices
+order = refl
+
 -- the index at a place
 unfoldable pub indexAt : ℕ → ℕ → Index
 indexAt d place = getD (indices d) place (index 0 0 0)
+
+-- the index after another: in a row j is one more; where a row ends i is, and j begins at 0
+unfoldable pub nextOf : Index → Index
+nextOf t = cond (eqb (t .k) 0) (index (t .i + 1) 0 (t .j - 1)) (index (t .i) (t .j + 1) (t .k - 1))
 
 -- the surface as a net, and number t (x, y, z) of the domain point (i, j): "the numbers of a point together"
 unfoldable pub netOf : Patch → Net

@@ -1,4 +1,4 @@
--- Worked patches, reckoned apart from this program by expanding the product of the Bernstein forms, with worked orders and refusals.
+-- Worked patches, reckoned apart from this program by expanding the product of the Bernstein forms, with worked readings and refusals.
 -- All but the corner case (3, 3) are without symmetry. Each array is lent with one place more than is needed. Assumes nothing.
 use mathlib.Core.Path.{_≡_, refl}
 use mathlib.Core.List.{List, [], _∷_, _++_, map}
@@ -15,7 +15,7 @@ use Rattle.request.specs.Refusal.{least, valuePlace, parameterPlace, uneven, is
 use Rattle.net.specs.Net.{rowStart}
 use Rattle.net.specs.Blossom.{step, blossom}
 use Rattle.net.specs.Reading.{bernstein, bernsteinTriangle}
-use Rattle.patch_net.specs.Patch.{Patch, patchOf, longest, places, index, row, rows, indices, netOf, pathNumber}
+use Rattle.patch_net.specs.Patch.{Patch, patchOf, longest, places, row, rows, indices, netOf, pathNumber}
 use Rattle.patch_net.specs.Refusal.{notDegree, notSurface, notPath, notRoom, notValue, notParameter, balancePlace, notBalance, refusals, accepted, answer}
 use Rattle.patch_net.specs.Composed.{multinomial, overIndices, overChoices, total, weight, arguments, numerator, denominator, point}
 use Rattle.patch_net.specs.Afterwards.{afterwards, exactAfter, pointsAfter}
@@ -30,15 +30,6 @@ below n = negℤ (pos n)
 
 unfoldable pub patch : ℕ → ℕ → List ℤ → List ℤ → Patch
 patch = patchOf
-
--- ---- 01's triangular order, written out for degree 2, and some multinomials
-pub order : indices 2 ≡ index 0 0 2 ∷ index 0 1 1 ∷ index 0 2 0 ∷ index 1 0 1 ∷ index 1 1 0 ∷ index 2 0 0 ∷ []
-unfolding row rows indices
-order = refl
-
-pub multinomials : map multinomial (index 0 0 3 ∷ index 0 1 2 ∷ index 1 1 1 ∷ index 4 3 2 ∷ index 3 3 3 ∷ []) ≡ 1 ∷ 3 ∷ 6 ∷ 1260 ∷ 1680 ∷ []
-unfolding multinomial choose
-multinomials = refl
 
 -- ---- the patches
 pub record Worked : Type 0 where
@@ -108,7 +99,10 @@ unfoldable pub stated : Worked → Answer × List ℤ × List ℤ
 stated w = (record { number = 0; place = 0; count = length (w .points) }, w .numerators ++ (mark ∷ []), w .points ++ (mark ∷ []))
 
 pub as-stated : map given (patches ++ corners) ≡ map stated (patches ++ corners)
-unfolding naturals below patch worked patches corner corners mark given stated longest places row rows indices netOf pathNumber rowStart notDegree notSurface notPath notRoom notValue notParameter balancePlace notBalance refusals accepted answer first refused decided least valuePlace parameterPlace uneven isNumber beyondTravel beyondPath multinomial overIndices overChoices total weight arguments numerator denominator point afterwards exactAfter pointsAfter step blossom nearest onSideOf halfUp sumOver choose
+unfolding naturals below patch worked patches corner corners mark given stated longest places row rows indices netOf pathNumber rowStart
+    notDegree notSurface notPath notRoom notValue notParameter balancePlace notBalance refusals accepted answer first refused decided least
+    valuePlace parameterPlace uneven isNumber beyondTravel beyondPath multinomial overIndices overChoices total weight arguments numerator
+    denominator point afterwards exactAfter pointsAfter step blossom nearest onSideOf halfUp sumOver choose
 as-stated = refl
 
 -- ---- read at (2, 3, 5)/10: the surface at the domain's place times 1024^n·10^L, and the drawn patch times 10^L
@@ -117,7 +111,8 @@ atPlace w = (surfaceRead (w .asked) 2 3 5, drawn (longest (w .asked)) (w .points
 
 pub read-as-stated : map atPlace patches
     ≡ (pos 237360, pos 235) ∷ (pos 1325940800, pos 1294) ∷ (below 7908760, below 7757) ∷ (pos 4073818338320, pos 3884587) ∷ []
-unfolding naturals below patch worked patches atPlace longest netOf pathNumber rowStart bernstein bernsteinTriangle drawn coordinate surfaceRead sumOver choose pow one
+unfolding naturals below patch worked patches atPlace longest netOf pathNumber rowStart bernstein bernsteinTriangle drawn coordinate
+    surfaceRead sumOver choose pow one
 read-as-stated = refl
 
 -- ---- the refusals in their order, each also where the next one holds: a patch, both rooms, and the number and the place
@@ -145,5 +140,6 @@ refusalsWorked =
 
 pub refused-as-stated : map (λ (r : Refused). answer (r .asked) (r .exactRoom) (r .pointsRoom)) refusalsWorked
     ≡ map (λ (r : Refused). refused (r .number) (r .place)) refusalsWorked
-unfolding naturals patch refusal refusalsWorked longest places notDegree notSurface notPath notRoom notValue notParameter balancePlace notBalance refusals accepted answer first refused decided least valuePlace parameterPlace uneven isNumber beyondTravel beyondPath
+unfolding naturals patch refusal refusalsWorked longest places notDegree notSurface notPath notRoom notValue notParameter balancePlace
+    notBalance refusals accepted answer first refused decided least valuePlace parameterPlace uneven isNumber beyondTravel beyondPath
 refused-as-stated = refl

@@ -95,7 +95,7 @@ module _ (p : Patch) where
       → adds R s q (a ∷ rest) ≡ pos (multinomial a) ⊗ adds R (s + keyOf a) (step (argumentOf p a) q) rest
   unfolding adds total weight blossom
   adds-more R s q a rest =
-      let keys : s + keyOf a + keyOf (total rest) ≡ s + (10 * (a .i + total rest .i) + (a .j + total rest .j)) = omega arith in
+      let keys : s + keyOf a + keyOf (total rest) ≡ s + keyOf (index (a .i + total rest .i) (a .j + total rest .j) (a .k + total rest .k)) = omega arith in
       sym
       (scale-cond (pos (multinomial a)) _ (eqb (s + keyOf a + keyOf (total rest)) R)
       ∙ rw (keys, pos-mul (multinomial a) (weight rest), ⊗-assoc))

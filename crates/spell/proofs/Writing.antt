@@ -1,13 +1,14 @@
 -- Laws of writing one thing after another into a buffer. Assumes nothing.
-use mathlib.Core.Path.{_≡_, refl, sym, _∙_, subst}
+use mathlib.Core.Path.{_≡_, refl, sym, ap, _∙_, subst}
 use mathlib.Core.List.{List, [], _∷_, _++_}
 use Prim.Native.Nat.{ℕ, suc, _+_, _≤_, _<_}
 use native.Mathlib.Nat.{add-zero, zero-add}
 use native.Mathlib.Numerals.{add-one}
 use native.Mathlib.Omega.{arith}
 use lib.ListN.{length, getD, take, drop, set, length-append, length-set}
-use lib.Seq.{sets, sets-eq, take-all, take-at, take-suc}
-use Rattle.spell.specs.Decimal.{Front, Written}
+use lib.Seq.{sets, sets-eq, length-sets, take-all, take-at, take-suc}
+use borrow.Author.Tests.{lt-ltb, le-ltb}
+use Rattle.spell.specs.Decimal.{Front, Written, Told}
 
 -- stores one after the other, and one more after a run of them
 module _ {A : Type 0} where
@@ -77,3 +78,23 @@ module _ (s : List ℕ) (l : List ℕ) (i : ℕ) (m : List ℕ) (k : ℕ) (c : C
   copying-all h =
       let e : k ≡ length s = omega arith in
       rw (← e) (subst (λ t. Written k l i t m (i + k)) (take-all k s (omega arith)) (c .so-far))
+
+-- no room; all is written; and what is written stands at the front
+module _ (room : ℕ) (bytes l : List ℕ) where
+  pub no-room : length l < room → Told room bytes l 0 l
+  no-room short = record { counted = rw (lt-ltb _ _ short); written = rw (lt-ltb _ _ short); within = omega arith }
+
+  module _ (m : List ℕ) (count : ℕ) (enough : room ≤ length l) where
+    pub told : Written room l 0 bytes m count → Told room bytes l count m
+    told w = record {
+      counted = rw (le-ltb _ _ enough) (omega (arith, w .ends));
+      written = rw (le-ltb _ _ enough) (w .holds);
+      within = omega (arith, w .small, ap length (w .holds) ∙ length-sets l 0 bytes);
+    }
+
+    pub told-front : Told room bytes l count m → take count m ≡ bytes
+    told-front t =
+        let size : count ≡ length bytes = rw (le-ltb _ _ enough) at (t .counted) in
+        let is : m ≡ sets l 0 bytes = rw (le-ltb _ _ enough) at (t .written) in
+        let fits : length bytes ≤ length l = omega (arith, size, t .within, ap length is ∙ length-sets l 0 bytes) in
+        rw (is, size) (front-read l bytes fits)

@@ -1,6 +1,6 @@
 -- How a whole number and a named number are written, and what a buffer holds then. Assumes nothing.
 use mathlib.Core.Path.{_≡_}
-use mathlib.Core.Bool.{true, false}
+use mathlib.Core.Bool.{true, false, cond}
 use mathlib.Core.List.{List, [], _∷_, _++_}
 use Prim.Native.Nat.{ℕ, zero, suc, _+_, _/_, _%_, _≤_}
 use lib.Dec.{ltb}
@@ -36,3 +36,9 @@ pub record Written (most : ℕ) (before : List ℕ) (at : ℕ) (bytes : List ℕ
   pub ends : end ≡ at + length bytes
   pub holds : now ≡ sets before at bytes
   pub small : end ≤ at + most
+
+-- bytes were written to the front of a lent buffer, where it has so much room; otherwise nothing is written and 0 is answered
+pub record Told (room : ℕ) (bytes before : List ℕ) (count : ℕ) (now : List ℕ) : Type 0 where
+  pub counted : count ≡ cond (ltb (length before) room) 0 (length bytes)
+  pub written : now ≡ cond (ltb (length before) room) before (sets before 0 bytes)
+  pub within : count ≤ length now

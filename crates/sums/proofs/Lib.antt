@@ -3,3 +3,4 @@ pub mod Filling
 pub mod Loading
 pub mod Starting
 pub mod Riding
+pub mod Tabled

@@ -103,7 +103,7 @@ module _ (t : List ℕ) (count outer m : ℕ) where
   due-one : (rest : ℕ) (T : List Term) (r : ℕ) → due rest T 1 r r ≡ weights T ^ r * rest
   due-one rest T r = due-budget rest T 1 r r ∙ one-mul _ ∙ budget-is T r rest
 
-  duty-is : (l : ℕ) → duty t count outer m (l + m) 0 (ofGroup m (l + m)) 1 ≡ weights U ^ l * (weights W ^ m * 1)
+  pub duty-is : (l : ℕ) → duty t count outer m (l + m) 0 (ofGroup m (l + m)) 1 ≡ weights U ^ l * (weights W ^ m * 1)
   duty-is zero =
       let h : 0 + m ≤ m = omega arith in
       rw (later-rest t count outer m (0 + m) h, later-group t count outer m (0 + m) h, later-of t count outer m (0 + m) h, zero-add m)
@@ -115,7 +115,7 @@ module _ (t : List ℕ) (count outer m : ℕ) where
       (due-one (budget W m m 1) U (suc l) ∙ ap (λ x. weights U ^ suc l * x) (budget-is W m 1))
 
   -- where there is no second group
-  owing-single : (l : ℕ) (p : Net) (R : ℕ) → m ≡ 0 → owing t count outer m (l + m) 0 (ofGroup m (l + m)) 0 1 p R ≡ walk U l l (leaf R) 0 p
+  pub owing-single : (l : ℕ) (p : Net) (R : ℕ) → m ≡ 0 → owing t count outer m (l + m) 0 (ofGroup m (l + m)) 0 1 p R ≡ walk U l l (leaf R) 0 p
   owing-single l p R e = owing-walk l p R ∙ (λ i. walk U l l (λ s p. none-later s p i) 0 p)
     where
       none-later : (s : ℕ) (p : Net) → walk W m m (leaf R) s p ≡ leaf R s p

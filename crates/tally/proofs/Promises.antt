@@ -1,14 +1,14 @@
 -- What the contracts promise: each leaves no choice; parts one after the other make the reader that the uncut trace makes;
 -- and its five numbers are those of the whole trace. Assumes nothing.
-use mathlib.Core.Path.{_≡_, sym, ap, _∙_}
-use mathlib.Core.List.{List, []}
+use mathlib.Core.Path.{_≡_, ap, _∙_}
+use mathlib.Core.List.{List}
 use Prim.Native.Nat.{ℕ}
 use Rattle.whole.proofs.Determined.{Determined}
-use Rattle.feed.specs.Parts.{uncut}
+use Rattle.feed.specs.Parts.{uncut, afterAll}
 use Rattle.fives.specs.declared.Five.{Five}
 use Rattle.tally.specs.declared.Reader.{Reader}
-use Rattle.tally.specs.Read.{blankReader, afterPart, afterParts, fiveIn, replayed}
-use Rattle.tally.proofs.Reading.{numbers-of, begun, after-more, after-all}
+use Rattle.tally.specs.Read.{blankReader, afterPart, fiveIn, replayed}
+use Rattle.tally.proofs.Reading.{numbers-of, reader-of-parts}
 
 -- ---- the contracts fix their results
 
@@ -27,14 +27,9 @@ replay-determined bytes = record { value = _; only = λ r e. e }
 -- ---- parts and the whole
 
 -- "after the last, state and sheet are those of the uncut trace": the state
-pub same-reader : (parts : List (List ℕ)) → afterParts blankReader parts ≡ afterPart blankReader (uncut parts)
-same-reader parts =
-    ap (λ (r : Reader). afterParts r parts) begun
-    ∙ after-all [] parts
-    ∙ sym (after-more [] (uncut parts))
-    ∙ ap (λ (r : Reader). afterPart r (uncut parts)) (sym begun)
+pub same-reader : (parts : List (List ℕ)) → afterAll afterPart blankReader parts ≡ afterPart blankReader (uncut parts)
+same-reader parts = reader-of-parts parts
 
 -- and the five numbers
-pub five-of-parts : (parts : List (List ℕ)) → fiveIn (afterParts blankReader parts) ≡ replayed (uncut parts)
-five-of-parts parts = ap (λ (r : Reader). fiveIn (afterParts r parts)) begun ∙ ap fiveIn (after-all [] parts)
-    ∙ numbers-of (uncut parts)
+pub five-of-parts : (parts : List (List ℕ)) → fiveIn (afterAll afterPart blankReader parts) ≡ replayed (uncut parts)
+five-of-parts parts = ap fiveIn (reader-of-parts parts) ∙ numbers-of (uncut parts)

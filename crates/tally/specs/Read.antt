@@ -1,6 +1,6 @@
 -- The reader of the five numbers: a fold of the pairs. What a part does is defined for every reader, also for one that no
 -- reading makes. That a reader has the five numbers of what it took is in proofs/Reading.antt. Assumes nothing.
-use mathlib.Core.List.{List, [], _∷_}
+use mathlib.Core.List.{List}
 use Prim.Native.Nat.{ℕ}
 use Rattle.door.specs.Contract.{replyOf}
 use Rattle.pairs.specs.Cut.{longestRecord}
@@ -27,16 +27,12 @@ feedOf reader = feedIn (reader .held) (reader .rest) (reader .tally)
 unfoldable pub readerOf : Feed Tally → Reader
 readerOf s = record { held = heldOf (s .kept); rest = s .rest; tally = s .gathered }
 
--- the reader that has read nothing; after a part; and after parts one after the other
+-- the reader that has read nothing, and after a part
 unfoldable pub blankReader : Reader
 blankReader = readerOf (blank noPairs)
 
 unfoldable pub afterPart : Reader → List ℕ → Reader
 afterPart reader part = readerOf (fed step (feedOf reader) part)
-
-unfoldable pub afterParts : Reader → List (List ℕ) → Reader
-afterParts reader [] = reader
-afterParts reader (part ∷ parts) = afterParts (afterPart reader part) parts
 
 -- the numbers that a reader has
 unfoldable pub fiveIn : Reader → Five

@@ -1,6 +1,6 @@
 -- `night::read_part` meets its contract. Assumes nothing.
 use lib.ListN.{length-take}
-use Rattle.night.proofs.Parts.{took-one}
+use Rattle.reading.proofs.Taking.{took-one}
 use borrow.Author.Needs.{needs}
 use native.Mathlib.Omega.{arith}
 use Rattle.night.proofs.read_part.Statement.{statement}

@@ -2,8 +2,8 @@
 use mathlib.Core.Path.{_≡_, refl}
 use lib.ListN.{length}
 use Rattle.trace.specs.Seek.{soughtIn}
-use Rattle.night.specs.Reading.{Took}
-use Rattle.night.proofs.Parts.{took-none, took-more}
+use Rattle.reading.specs.Parts.{Took}
+use Rattle.reading.proofs.Taking.{took-none, took-more}
 use borrow.Author.Needs.{needs}
 use native.Mathlib.Omega.{arith}
 use Rattle.night.proofs.seek_on.Statement.{statement}

@@ -15,7 +15,7 @@ use Rattle.request.proofs.Forms.{or-none}
 use Rattle.judge.specs.Places.{numberTests}
 use Rattle.patch_net.specs.Patch.{Patch, patchOf, longest, places}
 use Rattle.patch_net.specs.Refusal.{notDegree, notSurface, notPath, notRoom, notValue, notParameter, balancePlace, notBalance, refusals, accepted, answer}
-use Rattle.patch_net.proofs.Standing.{places-most}
+use Rattle.patch_net.proofs.Standing.{places-few}
 use Rattle.patch_judge.proofs.judge.Statement.{statement}
 use Rattle.patch_judge.proofs.judge.Tie as tie
 
@@ -48,11 +48,6 @@ degrees c = let o = or-none _ _ (sym (c .before .either .ensures) ∙ c .if1 .le
 
 few : (c : tie.Else1) → start1 c .args .n * start1 c .args .N ≤ 9
 few c = let d = degrees c in mul-le-mul (d .0) (d .1)
-
--- a domain has ten points at most
-few-points : (N : ℕ) → N ≤ 3 → places N ≤ 10
-unfolding places
-few-points N h = places-most N 3 h
 
 -- behind each test that came out false, the later ones decide
 past1 : (c : tie.Else1) → from (start1 c) 0 ≡ from (start1 c) 1
@@ -118,7 +113,7 @@ returns-2 c =
 mul-if3 : tie.Need-mul-if3
 mul-if3 c =
     let b = counted c .before in
-    record { fits = omega (arith, few-points _ (degrees (b .before .before) .1), b .places2 .ensures) }
+    record { fits = omega (arith, places-few _ (degrees (b .before .before) .1), b .places2 .ensures) }
 
 refusal-requires-3 : tie.Need-refusal-requires-3
 refusal-requires-3 c κs = search needs
@@ -145,7 +140,7 @@ returns-4 c =
 judge-numbers-requires : tie.Need-judge-numbers-requires
 judge-numbers-requires c κs =
     let b = counted (c .before .before .before) .before in
-    omega (arith, few-points _ (degrees (b .before .before) .1), b .places2 .ensures)
+    omega (arith, places-few _ (degrees (b .before .before) .1), b .places2 .ensures)
 
 returns-5 : tie.Need-returns-5
 unfolding answer refusals notValue notParameter notBalance balancePlace accepted longest

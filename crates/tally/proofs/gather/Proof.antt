@@ -2,9 +2,8 @@
 use mathlib.Core.Path.{ap, _∙_}
 use native.Mathlib.Omega.{arith}
 use lib.ListN.{length-take}
-use borrow.Author.Tests.{eq-eqb, ne-eqb}
 use Rattle.door.specs.Contract.{replyOf}
-use Rattle.feed.specs.Feed.{given}
+use Rattle.feed.proofs.Reading.{given-none, given-pair}
 use Rattle.fives.specs.Count.{counted}
 use Rattle.fives.proofs.Numbers.{counts-is}
 use borrow.Author.Needs.{needs}
@@ -12,8 +11,7 @@ use Rattle.tally.proofs.gather.Statement.{statement}
 use Rattle.tally.proofs.gather.Tie as tie
 
 returns : tie.Need-returns
-unfolding given
-returns c = rw (eq-eqb _ _ (c .if1 .taken))
+returns c = given-none _ _ _ _ (omega arith)
 
 slice-aggregate-agree : tie.Need-slice-aggregate-agree
 slice-aggregate-agree c = simp length-take (omega arith)
@@ -25,9 +23,8 @@ count-pair-requires : tie.Need-count-pair-requires
 count-pair-requires c κs = search needs
 
 returns-2 : tie.Need-returns-2
-unfolding given
 returns-2 c =
-    rw (ne-eqb _ _ (c .before .before .before .if1 .left))
+    given-pair _ _ _ _ (c .before .before .before .if1 .left)
     (c .count-pair .ensures ∙ ap (counted _) (c .before .agree .ensures) ∙ counts-is replyOf _ _)
 
 pub gather-spec : {M : Type 1} → statement M

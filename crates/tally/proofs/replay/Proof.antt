@@ -1,6 +1,7 @@
 -- `tally::replay` meets its contract. Assumes nothing.
-use mathlib.Core.Path.{_∙_}
-use Rattle.tally.proofs.Reading.{taken-at-once}
+use mathlib.Core.Path.{ap, _∙_}
+use Rattle.tally.specs.Read.{fiveIn}
+use Rattle.tally.proofs.Reading.{numbers-of}
 use borrow.Author.Needs.{needs}
 use Rattle.tally.proofs.replay.Statement.{statement}
 use Rattle.tally.proofs.replay.Tie as tie
@@ -15,7 +16,7 @@ finish-requires : tie.Need-finish-requires
 finish-requires c κs = search needs
 
 returns : tie.Need-returns
-returns c = c .finish .ensures ∙ taken-at-once _ (c .before .before .new .ensures) (c .before .take .ensures)
+returns c = c .finish .ensures ∙ ap fiveIn (rw (c .before .before .new .ensures) at (c .before .take .ensures)) ∙ numbers-of _
 
 pub replay-spec : {M : Type 1} → statement M
 replay-spec = tie.close (tie.spec new-requires take-requires finish-requires returns)

@@ -1,12 +1,12 @@
 -- `fives::lines::write_five` meets its contract. Assumes nothing.
 use native.Mathlib.Omega.{arith}
-use Rattle.fives.proofs.Telling.{no-room, told}
+use Rattle.spell.proofs.Writing.{no-room, told}
 use borrow.Author.Needs.{needs}
 use Rattle.fives.proofs.lines.write_five.Statement.{statement}
 use Rattle.fives.proofs.lines.write_five.Tie as tie
 
 returns : tie.Need-returns
-returns c = no-room _ _ (omega arith)
+returns c = no-room _ _ _ (omega arith)
 
 write-lines-requires : tie.Need-write-lines-requires
 write-lines-requires c κs = search needs
@@ -15,7 +15,7 @@ same-length : tie.Need-same-length
 same-length c = search needs
 
 returns-2 : tie.Need-returns-2
-returns-2 c = told (omega arith) (c .before .before .write-lines .ensures)
+returns-2 c = told _ _ _ _ _ (omega arith) (c .before .before .write-lines .ensures)
 
 pub write-five-spec : {M : Type 1} → statement M
 write-five-spec = tie.close (tie.spec returns write-lines-requires same-length returns-2)

@@ -1,0 +1,2 @@
+-- The state that takes a trace in parts. Assumes nothing.
+pub mod Read

@@ -1,0 +1,1 @@
+-- The laws that the proofs of crate day cite are those of crate reading. Assumes nothing.

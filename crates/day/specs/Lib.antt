@@ -1,0 +1,2 @@
+-- What the reading of a day promises. Assumes nothing.
+pub mod Telling

@@ -1,0 +1,2 @@
+-- The contract of `lean_patch`. Assumes nothing.
+pub mod Crossing

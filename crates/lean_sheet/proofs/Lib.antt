@@ -1,0 +1,3 @@
+-- Laws of the arrays that hold a state, and that the contract leaves no choice. Assumes nothing.
+mod Arrays
+pub mod Determined

@@ -1,0 +1,2 @@
+-- Laws of the two arrays under way, and what the judgement comes to. Assumes nothing.
+pub mod Placing

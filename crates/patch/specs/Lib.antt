@@ -1,0 +1,2 @@
+-- From the sums in their limbs to the two arrays. Assumes nothing.
+pub mod Writing

@@ -1,0 +1,2 @@
+-- Laws of the reading of an input. Assumes nothing.
+pub mod Taking

@@ -1,0 +1,2 @@
+-- What the reading of an input promises. Assumes nothing.
+pub mod Parts

@@ -1,0 +1,20 @@
+-- `sheets::greater` meets its contract. Assumes nothing.
+use mathlib.Core.Path.{sym, _∙_}
+use Rattle.sheets.specs.Sheet.{greater}
+use borrow.Author.Needs.{needs}
+use Rattle.sheets.proofs.greater.Statement.{statement}
+use Rattle.sheets.proofs.greater.Tie as tie
+
+less-requires : tie.Need-less-requires
+less-requires c κs = search needs
+
+returns : tie.Need-returns
+unfolding greater
+returns c = rw (sym (c .before .less .ensures) ∙ c .if1 .taken)
+
+returns-2 : tie.Need-returns-2
+unfolding greater
+returns-2 c = rw (sym (c .before .less .ensures) ∙ c .if1 .left)
+
+pub greater-spec : {M : Type 1} → statement M
+greater-spec = tie.close (tie.spec less-requires returns returns-2)

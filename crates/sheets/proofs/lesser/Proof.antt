@@ -1,0 +1,20 @@
+-- `sheets::lesser` meets its contract. Assumes nothing.
+use mathlib.Core.Path.{sym, _∙_}
+use Rattle.sheets.specs.Sheet.{lesser}
+use borrow.Author.Needs.{needs}
+use Rattle.sheets.proofs.lesser.Statement.{statement}
+use Rattle.sheets.proofs.lesser.Tie as tie
+
+less-requires : tie.Need-less-requires
+less-requires c κs = search needs
+
+returns : tie.Need-returns
+unfolding lesser
+returns c = rw (sym (c .before .less .ensures) ∙ c .if1 .taken)
+
+returns-2 : tie.Need-returns-2
+unfolding lesser
+returns-2 c = rw (sym (c .before .less .ensures) ∙ c .if1 .left)
+
+pub lesser-spec : {M : Type 1} → statement M
+lesser-spec = tie.close (tie.spec less-requires returns returns-2)
