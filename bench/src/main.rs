@@ -13,6 +13,7 @@ mod patches;
 mod plain;
 mod rides;
 mod ticks;
+mod torn;
 
 use lent::{Lent, Long, Short};
 use rides::Ride;
@@ -115,6 +116,7 @@ fn main() {
             ticks::report(&mut rng, &runs);
         }
         ["tick-once"] => print(&ticks::once(&mut rng)),
+        ["torn"] => torn::report(&short(&mut rng)),
         ["patch"] => {
             let runs: [_; RUNS] = array::from_fn(|_| run("patch-once"));
             patches::report(&mut rng, &runs);

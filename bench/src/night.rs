@@ -46,7 +46,7 @@ fn traces(rides: &[Ride]) -> [(&'static str, Vec<u8>); 2] {
     ]
 }
 
-fn exchange(ride: &Ride) -> Vec<u8> {
+pub fn exchange(ride: &Ride) -> Vec<u8> {
     let numbers = ride.surface.iter().chain(&ride.path);
     let mut bytes = vec![0, 0, 2, 0];
     bytes.extend([ride.form, ride.first, ride.second, ride.n].map(|number| number as u8));

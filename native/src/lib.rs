@@ -1,4 +1,4 @@
-//! The proved composer, door, replay, reading at a tick, card and patches, as Rust calls them: none has a condition on its arguments, and slices
+//! The proved composer, door, replay, salvage, reading at a tick, card and patches, as Rust calls them: none has a condition on its arguments, and slices
 //! of which one is exclusive never overlap, so all are safe. Each program links only the archive that it uses, so each is
 //! compiled where it is called.
 
@@ -39,6 +39,15 @@ extern "C" {
         part: *const u8,
         part_length: usize,
     );
+    fn lean_salvage(
+        window: *const u8,
+        window_length: usize,
+        last: u32,
+        words: *mut u64,
+        words_length: usize,
+        line: *mut u8,
+        line_length: usize,
+    ) -> u32;
     fn lean_tick(points: *const i32, points_length: usize, k: u32, words: *mut i64, words_length: usize) -> u32;
     fn lean_card(
         m: u32,
@@ -158,6 +167,47 @@ impl Day {
             span: (self.counts[2] != 0).then_some((least, most)),
         }
     }
+}
+
+/// The pairs that are kept of a torn trace, and the lines of the bytes that are skipped, where the trace comes in parts of these sizes.
+pub fn salvage(torn: &[u8], mut part: impl FnMut() -> usize) -> (Vec<u8>, String) {
+    let (mut file, mut lines) = (Vec::new(), Vec::new());
+    let mut words = [0; 5];
+    let mut line = [0; 47];
+    let (mut at, mut end) = (0, 0);
+    loop {
+        let last = end == torn.len();
+        let window = &torn[at..end];
+        let code = unsafe {
+            lean_salvage(
+                window.as_ptr(),
+                window.len(),
+                last.into(),
+                words.as_mut_ptr(),
+                words.len(),
+                line.as_mut_ptr(),
+                line.len(),
+            )
+        };
+        assert_eq!(code, 0, "five words and 47 bytes are enough");
+        let [skipped, kept, size] = [words[2], words[3], words[4]].map(|word| word as usize);
+        lines.extend(&line[..size]);
+        file.extend(&window[skipped..skipped + kept]);
+        at += skipped + kept;
+        if skipped + kept > 0 {
+            continue;
+        }
+        if last {
+            break;
+        }
+        assert!(window.len() < 256, "a window that waits is less than two records");
+        end = (end + part()).min(torn.len());
+    }
+    assert_eq!(at, torn.len(), "all is decided at the end");
+    if words[1] > 0 {
+        lines.extend(format!("skip {} {}\n", words[0], words[1]).bytes());
+    }
+    (file, String::from_utf8(lines).expect("lines are text"))
 }
 
 /// The curve of these points, read at k/1024.

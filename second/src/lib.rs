@@ -13,6 +13,7 @@
 pub mod agree;
 pub mod beside;
 pub mod beside_replay;
+pub mod beside_salvage;
 pub mod binomial;
 pub mod blossom;
 pub mod card;

@@ -22,7 +22,7 @@ pub struct Reader {
 }
 
 // The recorded reply of the pair that starts here is today's, byte for byte.
-fn agree(pair: &[u8]) -> bool
+pub fn agree(pair: &[u8]) -> bool
     ensures { λ r. ⌜ r ≡ agrees replyOf (pairIn (now (pair .entry))) ⌝ }
 {
     let request = pairs::record_in(pair);

@@ -95,11 +95,22 @@ impl Torn {
     }
 
     /// A trace for the salvage: noise before, between and inside pairs, pairs
-    /// inside skipped ones, lengths that point past the end, and a trace cut
-    /// after each of its bytes.
+    /// inside skipped ones, requests of another kind that the door answers so,
+    /// lengths that point past the end, and a trace cut after each of its
+    /// bytes.
     pub fn torn(&mut self) -> (String, Vec<u8>) {
         self.turn += 1;
-        match self.turn % 5 {
+        match self.turn % 6 {
+            5 => {
+                let mut bytes = self.few();
+                let mut request = self.recorder.exchange().0;
+                let kind = self.rng.pick(&[0x0000, 0x0003, 0x0101, REPLY]);
+                put(&mut request, 2, kind);
+                let reply = answered(&request);
+                bytes.extend([request, reply].concat());
+                bytes.extend(self.few());
+                ("another kind".to_string(), bytes)
+            }
             0 => {
                 let trace = self.traces.draw();
                 (trace.kind, trace.bytes)

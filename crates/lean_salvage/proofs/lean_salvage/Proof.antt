@@ -1,0 +1,69 @@
+-- `lean_salvage::lean_salvage` meets its contract: the look ahead's own numbers, in five words. Assumes nothing.
+use native.Mathlib.Omega.{arith}
+use Rattle.lean_salvage.proofs.Crossed.{few-words, short-line, wrote}
+use borrow.Author.Needs.{needs}
+use Rattle.lean_salvage.proofs.lean_salvage.Statement.{statement}
+use Rattle.lean_salvage.proofs.lean_salvage.Tie as tie
+
+returns : tie.Need-returns
+returns c = few-words _ _ _ _ (omega arith)
+
+returns-2 : tie.Need-returns-2
+returns-2 c = short-line _ _ _ _ (omega arith) (omega arith)
+
+slice-read-from : tie.Need-slice-read-from
+slice-read-from c = omega arith
+
+slice-read-lost : tie.Need-slice-read-lost
+slice-read-lost c = omega arith
+
+ahead-requires : tie.Need-ahead-requires
+ahead-requires c κs = search needs
+
+put-requires : tie.Need-put-requires
+put-requires c κs = search needs
+
+put-requires-2 : tie.Need-put-requires-2
+put-requires-2 c κs = search needs
+
+put-requires-3 : tie.Need-put-requires-3
+put-requires-3 c κs = search needs
+
+put-requires-4 : tie.Need-put-requires-4
+put-requires-4 c κs = search needs
+
+put-requires-5 : tie.Need-put-requires-5
+put-requires-5 c κs = search needs
+
+same-length : tie.Need-same-length
+same-length c = search needs
+
+same-length-2 : tie.Need-same-length-2
+same-length-2 c = search needs
+
+returns-3 : tie.Need-returns-3
+returns-3 c = wrote _ _ _ _ (omega arith) (omega arith) _ _ _ _ _ _ _ (c .before .before .before .before .before .before
+    .before .before .before .before .before .before .before .before .before .before .before .before .before .before .before
+    .before .before .ahead .ensures) (c .before .before .before .before .before .before .before .before .before .before
+    .before .before .before .before .before .before .before .before .put .ensures) (c .before .before .before .before .before
+    .before .before .before .before .before .before .before .before .before .put2 .ensures)
+    (c .before .before .before .before .before .before .before .before .before .before .put3 .ensures) (c .before .before
+    .before .before .before .before .put4 .ensures) (c .before .before .put5 .ensures)
+
+pub lean-salvage-spec : {M : Type 1} → statement M
+lean-salvage-spec =
+    tie.close
+    (tie.spec
+    returns
+    returns-2
+    slice-read-from
+    slice-read-lost
+    ahead-requires
+    put-requires
+    put-requires-2
+    put-requires-3
+    put-requires-4
+    put-requires-5
+    same-length
+    same-length-2
+    returns-3)

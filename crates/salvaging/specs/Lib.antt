@@ -1,0 +1,2 @@
+-- What a salvage from an input promises. Assumes nothing.
+pub mod Salvaging
