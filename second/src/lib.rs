@@ -25,6 +25,7 @@ pub mod entries;
 pub mod line;
 pub mod long;
 pub mod patch;
+pub mod patch_line;
 pub mod quantity;
 pub mod record;
 pub mod refusal;

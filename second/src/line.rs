@@ -6,9 +6,11 @@
 //! two rooms, and as the last word, if wanted, the age as a marked word,
 //! `age=251`; an age that the line does not name is 0.
 //!
-//! A line whose first word is `tick` is of another kind (`tick_line`).
+//! A line whose first word is `tick` or `patch` is of another kind
+//! (`tick_line`, `patch_line`).
 
 use crate::edition::TODAY;
+use crate::patch_line::{Piece, PATCH};
 use crate::tick_line::{Net, TICK};
 use crate::{compose, entries, Answer, Request};
 use std::fmt::Write;
@@ -74,6 +76,10 @@ pub fn answer(line: &[u8]) -> Result<String, String> {
         Some(TICK) => {
             words.words.next();
             Net::read(&mut words).map(|net| net.answer())
+        }
+        Some(PATCH) => {
+            words.words.next();
+            Piece::read(&mut words).map(|piece| piece.answer())
         }
         _ => read(line).map(|asked| asked.reply().line()),
     }
@@ -161,7 +167,7 @@ impl<'a> Words<'a> {
     }
 
     /// The rooms for numerators and for points.
-    fn rooms(&mut self) -> Result<(usize, usize), String> {
+    pub fn rooms(&mut self) -> Result<(usize, usize), String> {
         let exact = self.small("the room for numerators")?;
         let points = self.small("the room for points")?;
         Ok((exact, points))

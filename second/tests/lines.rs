@@ -217,12 +217,38 @@ fn tick_lines() {
     );
 }
 
+/// A line that begins with the word `patch` is read as a patch: by hand, a
+/// whole plane, whose corners stand in their own order, and one value.
+#[test]
+fn patch_lines() {
+    let told = |line: &str| answer(line.as_bytes());
+    let good = |line: &str| told(line).expect("it is readable");
+    let plane = "patch 1 1 3 10 20 30 9 0 0 1024 0 1024 0 1024 0 0";
+    assert_eq!(good(plane), "0 0 3 | 10240 20480 30720 | 10 20 30");
+    assert_eq!(
+        good(&format!("{plane} 4 3")),
+        "0 0 3 | 10240 20480 30720 -7 | 10 20 30"
+    );
+    assert_eq!(good(&format!("{plane} 2 3")), "5 0 0 | -7 -7 | -9 -9 -9");
+    assert_eq!(good("patch 4 0 0 0"), "2 0 0 | |");
+    assert_eq!(good("patch 0 0 1 7 3 512 256 256"), "0 0 1 | 7 | 7");
+    assert_eq!(good("patch 0 0 1 7 3 512 256 255"), "8 0 0 | |");
+    for line in [
+        "patch",
+        "patch 1",
+        "patch 0 0 1 7 3 512 256 256 1",
+        "patch 0 0 1 7 3 512 256 256 age=0",
+    ] {
+        assert!(told(line).is_err(), "{line}");
+    }
+}
+
 /// Every sample is answered as its kind says, and every kind comes.
 #[test]
 fn samples_are_what_they_say() {
     let mut sampler = Lines::new(7);
     let mut kinds: BTreeMap<String, u32> = BTreeMap::new();
-    for _ in 0..48_000 {
+    for _ in 0..64_000 {
         if let Some(aside) = sampler.aside() {
             assert!(passed_over(aside));
         }
@@ -248,6 +274,8 @@ fn samples_are_what_they_say() {
     assert_eq!(ages.count(), 54);
     let ticks = kinds.keys().filter(|kind| kind.starts_with("tick"));
     assert_eq!(ticks.count(), 5 + 5 + 9);
+    let patches = kinds.keys().filter(|kind| kind.starts_with("patch"));
+    assert!(patches.count() > 12);
     assert!(kinds.values().all(|&times| times > 30), "{kinds:?}");
 }
 

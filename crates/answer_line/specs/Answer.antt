@@ -27,6 +27,10 @@ lists exact points = 32 ∷ 124 ∷ spaced exact ++ 32 ∷ 124 ∷ spaced points
 unfoldable pub answerLine : ℕ → ℕ → ℕ → ℕ → List ℤ → List ℤ → List ℕ
 answerLine number place count entries exact points = verdict number place count entries ++ lists exact points ++ 10 ∷ []
 
+-- of a patch, `number place count | numerators | points` and a newline
+unfoldable pub patchLine : ℕ → ℕ → ℕ → List ℤ → List ℤ → List ℕ
+patchLine number place count exact points = judged number place ++ 32 ∷ digits count ++ lists exact points ++ 10 ∷ []
+
 -- of a reading at a tick: `number place reading` and a newline
 unfoldable pub readingLine : ℕ → ℕ → ℤ → List ℕ
 readingLine number place reading = judged number place ++ 32 ∷ decimal reading ++ 10 ∷ []

@@ -7,7 +7,7 @@ ghost use lib.IntN.{pos};
 ghost use lib.ListN.{length, getD};
 ghost use Rattle.spell.specs.Decimal.{decimal, Written};
 ghost use Rattle.two_words.specs.Words.{twoWords, numbersOf};
-ghost use Rattle.answer_line.specs.Answer.{spaced, judged, verdict, lists, answerLine, readingLine, Listed};
+ghost use Rattle.answer_line.specs.Answer.{spaced, judged, verdict, lists, answerLine, patchLine, readingLine, Listed};
 use long_decimal::write_words;
 use spell::write_bytes;
 use spell::write_natural;
@@ -69,6 +69,26 @@ fn write_points(list: &[i32], out: &mut [u8], at: usize) -> usize
     let mut k = 0;
     while k < list.len() {
         end = write_next(units_of(travel_at(list, k)), out, end);
+        k += 1;
+    }
+    end
+}
+
+fn exact_at(list: &[i64], k: usize) -> Num
+    requires { ⌜ k < length (now list) ⌝ }
+    ensures { λ r. ⌜ r .0 ≡ getD (now (list .entry)) k (pos 0) ⌝ }
+{
+    Num(list[k])
+}
+
+fn write_exact(list: &[i64], out: &mut [u8], at: usize) -> usize
+    requires { ⌜ at + 21 * length (now list) ≤ length (now out) ⌝ }
+    ensures { λ r. ⌜ Written (21 * length (now (list .entry))) (now (out .entry)) at (spaced (now (list .entry))) (now (out .exit)) r ⌝ }
+{
+    let mut end = at;
+    let mut k = 0;
+    while k < list.len() {
+        end = write_next(exact_at(list, k), out, end);
         k += 1;
     }
     end
@@ -139,6 +159,37 @@ pub fn write_answer(
     let b = write_lists(high, low, points, out, a);
     out[b] = b'\n';
     b + 1
+}
+
+// ` | numerators | points` of a patch, whose numerators are numbers of one word.
+fn write_both(exact: &[i64], points: &[i32], out: &mut [u8], at: usize) -> usize
+    requires { ⌜ (length (now exact) ≤ 64) × (length (now points) ≤ 64) × (at + 2692 ≤ length (now out)) ⌝ }
+    ensures { λ r. ⌜ Written 2692 (now (out .entry)) at (lists (now (exact .entry)) (now (points .entry))) (now (out .exit)) r ⌝ }
+{
+    let a = write_bar(out, at);
+    let b = write_exact(exact, out, a);
+    let c = write_bar(out, b);
+    write_points(points, out, c)
+}
+
+// The answer line of a patch, with its newline.
+pub fn write_patch(
+    number: u32,
+    place: usize,
+    count: usize,
+    exact: &[i64],
+    points: &[i32],
+    out: &mut [u8],
+) -> usize
+    requires { ⌜ (length (now exact) ≤ 64) × (length (now points) ≤ 64) × (4096 ≤ length (now out)) ⌝ }
+    ensures { λ r. ⌜ Written 4096 (now (out .entry)) 0
+        (patchLine number place count (now (exact .entry)) (now (points .entry))) (now (out .exit)) r ⌝ }
+{
+    let a = write_judged(number, place, out, 0);
+    let b = write_next_natural(count as u64, out, a);
+    let c = write_both(exact, points, out, b);
+    out[c] = b'\n';
+    c + 1
 }
 
 // `number place reading` and a newline.

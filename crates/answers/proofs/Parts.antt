@@ -25,32 +25,39 @@ use Rattle.spell.proofs.Writing.{front-read, written-front}
 use Rattle.tell.specs.Tell.{unreadable, complaint}
 use Rattle.tick_line.specs.Line.{tickWord}
 use Rattle.tick_line.specs.Line as ticks
+use Rattle.patch_line.specs.Line.{patchWord}
+use Rattle.patch_line.specs.Line as patches
 use Rattle.reply.specs.Reply.{spokenAs, spoken}
 use Rattle.answers.specs.Answer.{spokenOf, answerOf, complaintOf}
 use Rattle.answers.specs.Contract.{Says, enough, nextRow, Takes}
 use Rattle.answers.specs.declared.lines.Lines.{Lines}
 use Rattle.answers.specs.declared.lines.Taken.{Taken}
 
--- the first word was tested: a tick line, or a ride
-module _ (line : List ℕ) (o w : Cursor) (r : Bool) (begin : o ≡ begun line) (first : w ≡ next line o) (kind : r ≡ isKind line w tickWord) where
+-- the first word was tested: a tick line, a patch line, or a ride
+module _ (line : List ℕ) (o w : Cursor) (begin : o ≡ begun line) (first : w ≡ next line o) where
   is-opened : w ≡ opened line
   unfolding opened
   is-opened = first ∙ ap (next line) begin
 
-  is-tick : isKind line (opened line) tickWord ≡ r
-  is-tick = ap (λ c. isKind line c tickWord) (sym is-opened) ∙ sym kind
+  is-named : (name : List ℕ) (r : Bool) → r ≡ isKind line w name → isKind line (opened line) name ≡ r
+  is-named name r kind = ap (λ c. isKind line c name) (sym is-opened) ∙ sym kind
 
-  pub tick-short : r ≡ true → length line ≤ longestLine
-  tick-short t = named-short line tickWord (is-tick ∙ t)
+  pub named-fits : (name : List ℕ) (r : Bool) → r ≡ isKind line w name → r ≡ true → length line ≤ longestLine
+  named-fits name r kind t = named-short line name (is-named name r kind ∙ t)
 
-  module _ (out out′ : List ℕ) (x : Replied) where
+  module _ (out out′ : List ℕ) (x : Replied) (r : Bool) (tick : r ≡ isKind line w tickWord) where
     pub replies-tick : r ≡ true → Replies (ticks.spoken line w) line out out′ x → Replies (spokenOf line) line out out′ x
     unfolding spokenOf
-    replies-tick t s = rw (is-tick, t, ← is-opened) s
+    replies-tick t s = rw (is-named tickWord r tick, t, ← is-opened) s
 
-    pub replies-ride : r ≡ false → Replies (spoken line) line out out′ x → Replies (spokenOf line) line out out′ x
-    unfolding spokenOf
-    replies-ride f s = rw (is-tick, f) s
+    module _ (f : r ≡ false) (q : Bool) (patch : q ≡ isKind line w patchWord) where
+      pub replies-patch : q ≡ true → Replies (patches.spoken line w) line out out′ x → Replies (spokenOf line) line out out′ x
+      unfolding spokenOf
+      replies-patch t s = rw (is-named tickWord r tick, f, is-named patchWord q patch, t, ← is-opened) s
+
+      pub replies-ride : q ≡ false → Replies (spoken line) line out out′ x → Replies (spokenOf line) line out out′ x
+      unfolding spokenOf
+      replies-ride g s = rw (is-named tickWord r tick, f, is-named patchWord q patch, g) s
 
 -- nothing was written
 none : (l : List ℕ) → Front [] l l 0
@@ -156,7 +163,7 @@ takes-further part at l line out err line′ out′ err′ r t h = omega (arith,
 -- a line of any length says what is kept of it
 spoken-overlong : (line : List ℕ) → longestLine < length line → spokenOf line ≡ spokenAs (request [] overlong)
 unfolding spokenOf spoken
-spoken-overlong line l = rw (overlong-unnamed line l tickWord) (ap spokenAs (said-overlong line l))
+spoken-overlong line l = rw (overlong-unnamed line l tickWord, overlong-unnamed line l patchWord) (ap spokenAs (said-overlong line l))
 
 pub kept-says : (s : List ℕ) → every isText s ≡ true → spokenOf (cutAt 4097 [] s .kept) ≡ spokenOf s
 kept-says s t =

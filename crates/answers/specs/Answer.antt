@@ -6,12 +6,15 @@ use lib.Dec.{eqb}
 use Rattle.pieces.specs.Kept.{isPassed}
 use Rattle.kinds.specs.Kinds.{isKind, opened, Spoken}
 use Rattle.tick_line.specs.Line as ticks
+use Rattle.patch_line.specs.Line as patches
 use Rattle.tell.specs.Tell.{unreadable, complaint}
 use Rattle.reply.specs.Reply as rides
 
--- what a line says, by its first word: `tick`, or else it is a ride
+-- what a line says, by its first word: `tick`, `patch`, or else it is a ride
 unfoldable pub spokenOf : List ℕ → Spoken
-spokenOf line = cond (isKind line (opened line) ticks.tickWord) (ticks.spoken line (opened line)) (rides.spoken line)
+spokenOf line =
+    cond (isKind line (opened line) ticks.tickWord) (ticks.spoken line (opened line))
+    (cond (isKind line (opened line) patches.patchWord) (patches.spoken line (opened line)) (rides.spoken line))
 
 -- what is answered to a line: nothing where it is passed over
 unfoldable pub answerOf : List ℕ → List ℕ

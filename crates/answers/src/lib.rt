@@ -30,6 +30,9 @@ fn reply_to(line: &[u8], out: &mut [u8]) -> Replied
     if is_kind(line, word, b"tick") {
         return tick_line::reply(line, word, out);
     }
+    if is_kind(line, word, b"patch") {
+        return patch_line::reply(line, word, out);
+    }
     reply::reply(line, out)
 }
 

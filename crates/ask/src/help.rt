@@ -31,6 +31,9 @@ pub fn print() -> u64 {
         \x20 tick count point.. k  0 to 64 points; k 0 to 4294967295, read at k/1024\n\
         \x20 number place reading  11 MOMENT: k above 1024; the reading in 1/65536 of a unit\n\
         \x20 tick 2 0 100 512           is answered by   0 0 3276800\n\
+        A line that begins with the word patch is a patch on a patch, and its answer line is\n\
+        \x20 patch n N count value.. count number..   and, if wanted, two rooms\n\
+        \x20 number place count | numerators | points\n\
         \n\
         --names     writes refusals by name: STALE 0 0 0 | |\n\
         -h, --help  writes this text;  --version  writes the version\n\

@@ -1,14 +1,15 @@
 -- The composer's answer as a line, and the places that are lent to it. Assumes nothing.
-use mathlib.Core.Path.{_≡_, refl, ap}
+use mathlib.Core.Path.{_≡_}
 use mathlib.Core.Bool.{Bool}
-use mathlib.Core.List.{List, _∷_}
-use Prim.Native.Nat.{ℕ, zero, suc, _≤_}
+use mathlib.Core.List.{List}
+use Prim.Native.Nat.{ℕ, _≤_}
 use native.Mathlib.Omega.{arith}
 use lib.IntN.{ℤ}
-use lib.ListN.{length, take, replicate}
+use lib.ListN.{length, take}
 use Rattle.two_words.specs.Words.{numbersOf}
 use Rattle.request.specs.Request.{Request}
 use Rattle.numbers.proofs.Zeros.{zeros, list-size, list-read}
+use Rattle.rooms.specs.Shown.{shown}
 use Rattle.text.specs.Line.{said}
 use Rattle.text.specs.Read.{ReadsLine}
 use Rattle.text.specs.declared.Reading.{Reading}
@@ -16,7 +17,7 @@ use Rattle.compose.specs.declared.Composition.{Composition}
 use Rattle.compose.specs.Afterwards.{Arrays}
 use Rattle.compose.specs.Contract.{Composed}
 use Rattle.answer_line.specs.Answer.{answerLine}
-use Rattle.reply.specs.Reply.{shown, replyOf, Fits, lineIn, lineOf}
+use Rattle.reply.specs.Reply.{replyOf, Fits, lineIn, lineOf}
 
 -- the composer's answer, with the arrays as it leaves them, in the places that are shown
 pub replied : (rq : Request) (age : ℕ) (given : Bool) (lent left : Arrays) (k : Composition) (c d : ℕ)
@@ -28,11 +29,6 @@ pub replied : (rq : Request) (age : ℕ) (given : Bool) (lent left : Arrays) (k 
     ≡ replyOf rq age given lent
 unfolding replyOf
 replied rq age given lent left k c d is e f p q = rw (p, q, e, f, is .high-is, is .low-is, is .points-is, is .answered, is .counted)
-
-pub take-replicate : {A : Type 0} (n m : ℕ) (z : A) → n ≤ m → take n (replicate m z) ≡ replicate n z
-take-replicate zero m z l = refl
-take-replicate (suc n) zero z l = absurd (omega arith)
-take-replicate (suc n) (suc m) z l = ap (λ s. z ∷ s) (take-replicate n m z (omega arith))
 
 -- what was read as a request
 module _ (line : List ℕ) (surface path : List ℤ) (r : Reading) (is : ReadsLine line zeros zeros surface path r) where

@@ -1,7 +1,7 @@
 -- The answer line of a request: document 01's answer to it, in the places that are shown. Assumes nothing.
-use mathlib.Core.Bool.{Bool, cond}
+use mathlib.Core.Bool.{Bool}
 use mathlib.Core.List.{List}
-use Prim.Native.Nat.{ℕ, _≤_, min}
+use Prim.Native.Nat.{ℕ, _≤_}
 use lib.IntN.{ℤ, negsuc}
 use lib.ListN.{length, take, replicate}
 use Rattle.two_words.specs.Words.{numbersOf}
@@ -9,13 +9,10 @@ use Rattle.request.specs.Refusal.{answer}
 use Rattle.request.specs.Request.{Request, requestOf}
 use Rattle.compose.specs.Afterwards.{Arrays, arrays, roomsOf, highAfter, lowAfter, pointsAfter, entriesAfter}
 use Rattle.kinds.specs.Kinds.{Spoken}
+use Rattle.rooms.specs.Shown.{shown}
 use Rattle.text.specs.Line.{Said, said}
 use Rattle.text.specs.declared.Reading.{Reading}
 use Rattle.answer_line.specs.Answer.{answerLine}
-
--- how many places of an array are shown: all where the line gives rooms, else those that the answer counts
-unfoldable pub shown : Bool → ℕ → ℕ → ℕ
-shown given count room = cond given room (min count room)
 
 -- the answer line of a request on a tilt sample of some age, whose arrays for words and points are lent
 unfoldable pub replyOf : Request → ℕ → Bool → Arrays → List ℕ

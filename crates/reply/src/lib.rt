@@ -1,34 +1,21 @@
 // The answer line of a request line: the composer's answer, and its arrays in the places that are shown.
-ghost use mathlib.Core.Path.{_≡_};
 ghost use Prim.Native.Nat.{_≤_};
 ghost use lib.ListN.{length};
 ghost use Rattle.request.specs.Request.{requestOf};
 ghost use Rattle.compose.specs.Afterwards.{arrays};
 ghost use Rattle.answer_line.specs.Answer.{Listed};
 ghost use Rattle.kinds.specs.Read.{answerMost, Replies};
-ghost use Rattle.reply.specs.Reply.{shown, replyOf, Fits, lineIn, spoken};
+ghost use Rattle.reply.specs.Reply.{replyOf, Fits, lineIn, spoken};
 ghost use Rattle.spell.specs.Decimal.{Written};
 use answer_line::write_answer;
 use kinds::Replied;
 use request::Head;
+use rooms::shown;
 use text::Reading;
 use units::Age;
 
 // The low word of -7, whose high word is -1.
 const LOW_SEVEN: u64 = 18446744073709551609;
-
-// How many places of an array are shown: all where the line gives rooms, else those that the answer counts.
-fn shown(given: bool, count: usize, room: usize) -> usize
-    ensures { λ r. ⌜ (r ≡ shown given count room) × (r ≤ room) ⌝ }
-{
-    if given {
-        return room;
-    }
-    if count < room {
-        return count;
-    }
-    room
-}
 
 // The answer line of a request, with arrays of its rooms lent.
 fn reply_in(

@@ -9,8 +9,9 @@ use Rattle.words.specs.Words.{isBlank, isSolid, isDigit, run, every, wordAfter,
 use Rattle.words.specs.declared.Cursor.{Cursor}
 use Rattle.numbers.specs.Numbers.{number, headed, value, afterValues, values, listed}
 use Rattle.kinds.specs.Kinds.{begun, ended}
-use Rattle.text.specs.Line.{Said, roomed, aged, request, said}
-use Rattle.text.specs.declared.Rooms.{Rooms}
+use Rattle.text.specs.Line.{Said, aged, request, said}
+use Rattle.rooms.specs.Shown.{roomed}
+use Rattle.rooms.specs.declared.Rooms.{Rooms}
 
 -- `1 1 0 1 2 0 100 2 0 1024`
 p1 : List ℕ

@@ -14,12 +14,14 @@ use Rattle.numbers.specs.Numbers.{number, headed, afterValues, values, listed}
 use Rattle.numbers.specs.declared.Headed.{Headed}
 use Rattle.kinds.specs.Kinds.{longestLine, overlong, begun, ended}
 use Rattle.kinds.proofs.Owed.{begun-overlong}
-use Rattle.text.specs.Line.{roomed, aged, request, said}
-use Rattle.text.specs.declared.Roomed.{Roomed}
+use Rattle.request.specs.Head.{mostPoints}
+use Rattle.rooms.specs.Shown.{roomed}
+use Rattle.rooms.specs.declared.Roomed.{Roomed}
+use Rattle.text.specs.Line.{aged, request, said}
 use Rattle.text.specs.declared.Aged.{Aged}
 
 pub said-is : (line : List ℕ) (o : Cursor) (h : Headed) (a b : Cursor) (m : Roomed) (g : Aged) (e : Cursor) → o ≡ begun line
-    → h ≡ headed line o → a ≡ listed line (h .cursor) .cursor → b ≡ listed line a .cursor → m ≡ roomed line b
+    → h ≡ headed line o → a ≡ listed line (h .cursor) .cursor → b ≡ listed line a .cursor → m ≡ roomed mostPoints line b
     → g ≡ aged line (m .cursor) → e ≡ ended line (g .cursor)
     → said line ≡ record {
       cursor = e;

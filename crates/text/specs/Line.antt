@@ -1,36 +1,18 @@
 -- What a request line says, its words read one after the other. Assumes nothing.
-use mathlib.Core.Bool.{false, true, cond}
+use mathlib.Core.Bool.{cond}
 use mathlib.Core.List.{List}
 use Prim.Native.Nat.{ℕ}
 use lib.Dec.{eqb}
 use lib.IntN.{ℤ}
 use Rattle.request.specs.declared.Head.{Head}
 use Rattle.request.specs.Head.{mostPoints}
-use Rattle.words.specs.Words.{next, wordAt, because, leftOver, isAge, ageOf}
+use Rattle.words.specs.Words.{next, wordAt, because, ageOf}
 use Rattle.words.specs.declared.Cursor.{Cursor}
 use Rattle.kinds.specs.Kinds.{begun, ended}
-use Rattle.numbers.specs.Numbers.{most, natural, headed, listed}
-use Rattle.text.specs.declared.Rooms.{Rooms}
-use Rattle.text.specs.declared.Roomed.{Roomed}
+use Rattle.numbers.specs.Numbers.{headed, listed}
+use Rattle.rooms.specs.Shown.{roomed}
+use Rattle.rooms.specs.declared.Rooms.{Rooms}
 use Rattle.text.specs.declared.Aged.{Aged}
-
--- the rooms where a line names none: room for the longest answer
-abbrev pub ownRooms : Rooms
-ownRooms = record { given = false; exact = mostPoints; points = mostPoints }
-
--- two rooms, unless no word is left or the next one is the age; one word alone is left over
-unfoldable pub roomed : List ℕ → Cursor → Roomed
-roomed line c =
-    let none : Roomed = record { cursor = c; rooms = ownRooms } in
-    let word = next line c in
-    cond (eqb (word .wrong) 0)
-    (cond (isAge (wordAt line word)) none
-    (cond (eqb (next line word .wrong) 0)
-    (let exact = natural line c most in
-    let points = natural line (exact .cursor) most in
-    record { cursor = points .cursor; rooms = record { given = true; exact = exact .size; points = points .size } })
-    (record { cursor = because word leftOver; rooms = ownRooms })))
-    none
 
 -- `age=` and digits, unless no word is left, and then the age is 0
 unfoldable pub aged : List ℕ → Cursor → Aged
@@ -55,7 +37,7 @@ request line c =
     let start = headed line c in
     let surface = listed line (start .cursor) in
     let path = listed line (surface .cursor) in
-    let lent = roomed line (path .cursor) in
+    let lent = roomed mostPoints line (path .cursor) in
     let last = aged line (lent .cursor) in
     record {
       cursor = ended line (last .cursor);

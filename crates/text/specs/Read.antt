@@ -9,16 +9,9 @@ use Rattle.words.specs.Read.{Inside}
 use Rattle.words.specs.declared.Cursor.{Cursor}
 use Rattle.numbers.specs.Numbers.{most}
 use Rattle.kinds.specs.Kinds.{longestLine}
-use Rattle.text.specs.Line.{roomed, aged, said}
+use Rattle.text.specs.Line.{aged, said}
 use Rattle.text.specs.declared.Reading.{Reading}
-use Rattle.text.specs.declared.Roomed.{Roomed}
 use Rattle.text.specs.declared.Aged.{Aged}
-
-pub record ReadsRooms (line : List ℕ) (c : Cursor) (r : Roomed) : Type 0 where
-  pub is : r ≡ roomed line c
-  pub inside : Inside line (r .cursor)
-  pub small-exact : r .rooms .exact ≤ most
-  pub small-points : r .rooms .points ≤ most
 
 pub record ReadsAge (line : List ℕ) (c : Cursor) (r : Aged) : Type 0 where
   pub is : r ≡ aged line c

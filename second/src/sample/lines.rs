@@ -1,10 +1,12 @@
 //! Lines of every kind, mixed: rides, and now and then a net to be read at a
-//! tick. The same for the same seed.
+//! tick, or a patch. The same for the same seed.
 
+use super::patches::Patches;
 use super::text::{far_signed, zeros, NO_NUMBERS};
 use super::ticks::Ticks;
 use super::{Expect, Sample, Sampler};
 use crate::line::{LONGEST, MOST};
+use crate::patch_line::{Piece, OWN_ROOM};
 use crate::tick::tick;
 use crate::tick_line::Net;
 use crate::xorshift::Xorshift;
@@ -13,9 +15,10 @@ use crate::xorshift::Xorshift;
 pub struct Lines {
     rides: Sampler,
     ticks: Ticks,
+    patches: Patches,
     rng: Xorshift,
-    /// How many tick lines there have been.
-    turn: usize,
+    /// How many tick lines and patch lines there have been.
+    turns: [usize; 2],
 }
 
 impl Lines {
@@ -23,8 +26,9 @@ impl Lines {
         Lines {
             rides: Sampler::new(seed),
             ticks: Ticks::new(seed),
+            patches: Patches::new(seed),
             rng: Xorshift::new(!seed),
-            turn: 0,
+            turns: [0; 2],
         }
     }
 
@@ -34,9 +38,10 @@ impl Lines {
     }
 
     pub fn draw(&mut self) -> Sample {
-        match self.rng.once_in(8) {
-            true => self.tick(),
-            false => self.rides.draw(),
+        match self.rng.below(16) {
+            0 | 1 => self.tick(),
+            2 => self.patch(),
+            _ => self.rides.draw(),
         }
     }
 
@@ -48,25 +53,65 @@ impl Lines {
             true => Expect::Number(tick(&net.points, k).number),
             false => Expect::Unreadable,
         };
-        let words = net.line();
-        let words: Vec<Vec<u8>> = words
-            .split(' ')
-            .map(|word| word.as_bytes().to_vec())
-            .collect();
-        self.turn += 1;
-        let (name, expect, line) = match self.turn % 12 {
+        self.turns[0] += 1;
+        self.written("tick", kind, expect, &net.line(), self.turns[0], unreadable)
+    }
+
+    fn patch(&mut self) -> Sample {
+        let (kind, patch) = self.patches.draw();
+        let most = MOST as usize;
+        let [exact, points] = patch.rooms.map(|room| room.min(most));
+        let rooms = match (exact, points) {
+            (OWN_ROOM, OWN_ROOM) => None,
+            rooms => Some(rooms),
+        };
+        let piece = Piece {
+            outer: patch.outer,
+            domain: patch.domain,
+            surface: patch.surface,
+            path: patch.path,
+            rooms,
+        };
+        let expect = match piece.surface.len().max(piece.path.len()) > most {
+            true => Expect::Unreadable,
+            false => Expect::Number(piece.answered().0.number),
+        };
+        self.turns[1] += 1;
+        self.written(
+            "patch",
+            kind,
+            expect,
+            &piece.line(),
+            self.turns[1],
+            unreadable_patch,
+        )
+    }
+
+    /// A line as it is, or oddly written, or spoilt.
+    fn written(
+        &mut self,
+        word: &str,
+        kind: String,
+        expect: Expect,
+        line: &str,
+        turn: usize,
+        spoil: impl Fn(&mut Xorshift, Vec<Vec<u8>>, usize) -> (&'static str, Vec<u8>),
+    ) -> Sample {
+        let words = line.split(' ').map(|word| word.as_bytes().to_vec());
+        let words: Vec<Vec<u8>> = words.collect();
+        let (name, expect, line) = match turn % 12 {
             0 => {
-                let (name, line) = odd(&mut self.rng, words, self.turn / 12);
+                let (name, line) = odd(&mut self.rng, words, turn / 12);
                 (format!("odd but readable, {name}"), expect, line)
             }
             1 => {
-                let (name, line) = unreadable(&mut self.rng, words, self.turn / 12);
+                let (name, line) = spoil(&mut self.rng, words, turn / 12);
                 (format!("unreadable, {name}"), Expect::Unreadable, line)
             }
             _ => (kind, expect, words.join(&b' ')),
         };
         Sample {
-            kind: format!("tick, {name}"),
+            kind: format!("{word}, {name}"),
             expect,
             line,
         }
@@ -139,4 +184,28 @@ fn unreadable(rng: &mut Xorshift, mut words: Vec<Vec<u8>>, turn: usize) -> (&'st
     };
     words[at] = wrong.to_vec();
     (name, words.join(&b' '))
+}
+
+/// A patch line that cannot be read, and its name.
+fn unreadable_patch(
+    rng: &mut Xorshift,
+    mut words: Vec<Vec<u8>>,
+    turn: usize,
+) -> (&'static str, Vec<u8>) {
+    match turn % 3 {
+        0 => {
+            let names: [&[u8]; 4] = [b"patches", b"patc", b"Patch", b"patch="];
+            words[0] = rng.pick(&names).to_vec();
+            ("another word", words.join(&b' '))
+        }
+        1 => {
+            words.truncate(1 + rng.below(4));
+            ("too few words", words.join(&b' '))
+        }
+        _ => {
+            let more: [&[u8]; 3] = [b"1 1 1", b"1 1 age=0", b"x"];
+            words.push(rng.pick(&more).to_vec());
+            ("words left over", words.join(&b' '))
+        }
+    }
 }

@@ -5,7 +5,7 @@ use lib.ListN.{length-take}
 use lib.Seq.{length-take-le}
 use native.Mathlib.Omega.{arith}
 use Rattle.reply.specs.Reply.{lowSeven, lineIn}
-use Rattle.reply.proofs.Replied.{take-replicate}
+use Rattle.rooms.proofs.Lent.{take-replicate}
 use borrow.Author.Needs.{needs}
 use Rattle.reply.proofs.reply_read.Statement.{statement}
 use Rattle.reply.proofs.reply_read.Tie as tie

@@ -1,11 +1,11 @@
--- `text::read_rooms` meets its contract: the cases of its definition. Assumes nothing.
+-- `rooms::read_rooms` meets its contract: the cases of its definition. Assumes nothing.
 use mathlib.Core.Path.{refl}
 use native.Mathlib.Omega.{arith}
 use borrow.Author.Needs.{needs}
 use borrow.Author.Tests.{eq-eqb, ne-eqb}
-use Rattle.text.specs.Line.{roomed}
-use Rattle.text.proofs.read_rooms.Statement.{statement}
-use Rattle.text.proofs.read_rooms.Tie as tie
+use Rattle.rooms.specs.Shown.{roomed}
+use Rattle.rooms.proofs.read_rooms.Statement.{statement}
+use Rattle.rooms.proofs.read_rooms.Tie as tie
 
 next-requires : tie.Need-next-requires
 next-requires c κs = search needs
@@ -14,7 +14,7 @@ returns : tie.Need-returns
 unfolding roomed
 returns c = record {
   is = rw (← c .before .before .next .ensures .is, ne-eqb _ _ (c .if1 .taken));
-  inside = c .before .before .before .before .pre;
+  inside = c .before .before .before .before .pre .0;
   small-exact = omega arith;
   small-points = omega arith;
 }
@@ -42,7 +42,7 @@ returns-2 c =
         ← c .before .is-age .ensures,
         c .if2 .taken,
       );
-      inside = there .before .before .before .before .pre;
+      inside = there .before .before .before .before .pre .0;
       small-exact = omega arith;
       small-points = omega arith;
     }

@@ -1,8 +1,8 @@
--- `reply::shown` meets its contract: the definition's cases. Assumes nothing.
+-- `rooms::shown` meets its contract: the definition's cases. Assumes nothing.
 use native.Mathlib.Omega.{arith}
-use Rattle.reply.specs.Reply.{shown}
-use Rattle.reply.proofs.shown.Statement.{statement}
-use Rattle.reply.proofs.shown.Tie as tie
+use Rattle.rooms.specs.Shown.{shown}
+use Rattle.rooms.proofs.shown.Statement.{statement}
+use Rattle.rooms.proofs.shown.Tie as tie
 
 returns : tie.Need-returns
 unfolding shown

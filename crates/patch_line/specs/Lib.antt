@@ -1,0 +1,3 @@
+-- What a patch line says and its answer line, as bytes by definition, and what its readers promise. Assumes nothing.
+pub mod Line
+pub mod Read

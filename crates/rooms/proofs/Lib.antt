@@ -1,0 +1,2 @@
+-- Laws of the rooms. Assumes nothing.
+pub mod Lent
