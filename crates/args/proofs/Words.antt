@@ -10,7 +10,6 @@ use lib.ListN.{length, getD, take, drop, drop-of-length-le}
 use lib.Seq.{drop-cons, take-all}
 use borrow.Author.Tests.{eq-eqb, ne-eqb, lt-ltb, le-ltb, eqb-true}
 use Rattle.args.specs.Args.{alike, prefixed, digitOf, countFrom, numberIn}
-use Rattle.args.specs.declared.Number.{Number}
 use Rattle.args.specs.declared.Number.the-variants.{Is, TooLarge, None}
 
 alike-self : (s : List ℕ) → alike s s ≡ true

@@ -318,7 +318,7 @@ fn pair_tri(
 pub fn gather_tri(
     t: &[u32; 40],
     count: usize,
-    net: [i64; 15],
+    net: &[i64; 15],
     left: usize,
     from: usize,
     begun: usize,
@@ -326,10 +326,10 @@ pub fn gather_tri(
     weight: u64,
     sums: &mut [i64],
 ) -> u64
-    requires { ⌜ (1 < left) × Ready (now t) count 0 0 left from begun s weight (now sums) × Even (now t) count × Small net (entryMost left) ⌝ }
+    requires { ⌜ (1 < left) × Ready (now t) count 0 0 left from begun s weight (now sums) × Even (now t) count × Small (now net) (entryMost left) ⌝ }
     ensures { λ r. ⌜ Counted (now (t .entry)) count 2 0 left from r
         × Gained (now (sums .entry)) (now (sums .exit))
-        (owing (now (t .entry)) count 0 0 left from begun s weight (held net))
+        (owing (now (t .entry)) count 0 0 left from begun s weight (held (now (net .entry))))
         (duty (now (t .entry)) count 0 0 left from begun weight) ⌝ }
 {
     let closed = weight * arrangements(begun, left);
@@ -344,14 +344,14 @@ pub fn gather_tri(
         let place = s + key(t, c);
         let v = w * weight_of(t, c);
         let m = if left == 3 {
-            let q = steps::tri_six(&net, x, y);
+            let q = steps::tri_six(net, x, y);
             pair_tri(t, count, q, c, b, place, v, sums)
         } else if left == 2 {
-            let q = steps::tri_three(&net, x, y);
+            let q = steps::tri_three(net, x, y);
             last_tri(t, count, q, c, b, place, v, sums)
         } else {
-            let q = steps::lowered(&net, x, y);
-            gather_tri(t, count, q, left - 1, c, b, place, v, sums)
+            let q = steps::lowered(net, x, y);
+            gather_tri(t, count, &q, left - 1, c, b, place, v, sums)
         };
         n += formed + m;
         w = closed;

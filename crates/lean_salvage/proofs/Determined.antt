@@ -1,5 +1,4 @@
 -- The contract of `lean_salvage` fixes the code, every lent word and every byte of the line. Assumes nothing.
-use mathlib.Core.Path.{_≡_}
 use mathlib.Core.List.{List}
 use Prim.Native.Nat.{ℕ}
 use Rattle.whole.proofs.Determined.{Determined}

@@ -10,7 +10,7 @@ use Rattle.kinds.specs.Kinds.{begun, ended, opened}
 use Rattle.numbers.specs.Numbers.{number, value, afterValues, values, listed}
 use Rattle.rooms.specs.Shown.{roomed}
 use Rattle.rooms.specs.declared.Rooms.{Rooms}
-use Rattle.patch_line.specs.Line.{Asked, asked}
+use Rattle.patch_line.specs.Line.{asked}
 
 -- `patch 1 2 1 -7 2 0 1024`, `patch 0 3 0 0 5 6`, `patch 1 2 0 0 5`, `patch 1 x`, `patch 1 2 0 0 age=0`
 lines : List (List ℕ)

@@ -2,7 +2,7 @@
 -- of the choices of one place add up to its multinomial. Assumes nothing.
 use mathlib.Core.Path.{_≡_, refl, sym, _∙_, ap, subst}
 use mathlib.Core.Bool.{cond, _&&_}
-use mathlib.Core.List.{List, [], _∷_, map}
+use mathlib.Core.List.{List, [], _∷_}
 use Prim.Native.Nat.{ℕ, zero, suc, _+_, _*_, _-_, _^_, _≤_}
 use native.Mathlib.Nat.{add-zero, zero-add, add-assoc, add-comm, suc-mul, mul-comm, mul-assoc}
 use native.Mathlib.Decide.{ℕ-discrete}
@@ -20,7 +20,7 @@ use Rattle.request.specs.Refusal.{uneven}
 use Rattle.request.proofs.Least.{least-before}
 use Rattle.request.proofs.Bounds.{path-numbers, travels, uneven-is}
 use Rattle.net.specs.Net.{rowStart}
-use Rattle.net.specs.Blossom.{Argument, within, blossom}
+use Rattle.net.specs.Blossom.{within, blossom}
 use Rattle.net.proofs.Every.{Every, none, more, every-map}
 use Rattle.net.proofs.Weigh.{weighs-within}
 use Rattle.net.proofs.Evaluation.{all, all-under, all-linear}

@@ -11,7 +11,7 @@ use Rattle.whole.specs.Choose.{choose, chooseFrom}
 use Rattle.whole.proofs.Ring.{_⊕_, _⊗_, ⊗-assoc, pos-add, pos-mul}
 use Rattle.whole.proofs.Sums.{sum-cong-on, sum-scale}
 use Rattle.whole.proofs.Binomial.{choose-above, chooseFrom-zero, chooseFrom-pascal, weighed, weighed-zero, weighed-suc, weighed-cong, weighed-add}
-use Rattle.patch_net.specs.Patch.{Index, index}
+use Rattle.patch_net.specs.Patch.{Index}
 use Rattle.patch_net.specs.Composed.{multinomial, overIndices}
 use Rattle.patch_net.proofs.Indices.{degree}
 

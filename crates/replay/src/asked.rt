@@ -1,172 +1,122 @@
-// What the arguments ask for.
-use crate::text::put;
-use crate::text::say;
-ghost use Prim.Native.Nat.{_≤_};
+// A request in words: its kind, form, degrees, age, control values and path, and its bytes.
+ghost use mathlib.Core.Path.{_≡_};
+ghost use mathlib.Core.Bool.{false};
+ghost use Rattle.request.specs.Refusal.{notDegree};
+use crate::text::put_hex;
+use crate::text::put_marked;
+use crate::text::put_numbers;
+use page::put;
+use page::put_natural;
+use request::Head;
+use wire::byte_at;
+use wire::word_at;
 
-// `file` is the number of the argument that names the trace, 0 for standard input; `show` is the number of a pair, 0 for
-// the five lines; `counting` where such a number is to come; `wrong` is the argument that is not understood, 0 for none.
-pub struct Wish {
-    pub help: bool,
-    pub progress: bool,
-    pub counting: bool,
-    pub wrong: usize,
-    pub file: usize,
-    pub show: u64,
+fn head_of(bytes: &[u8]) -> Head {
+    Head {
+        form: byte_at(bytes, 4) as u32,
+        first: byte_at(bytes, 5) as u32,
+        second: byte_at(bytes, 6) as u32,
+        N: byte_at(bytes, 7) as u32,
+    }
 }
 
-enum Kind {
-    Help,
-    Progress,
-    Show,
-    Name,
-    Unknown,
+fn put_head(bytes: &[u8], page: &mut [u8], at: usize) -> usize {
+    let a = put_natural(b": form ", byte_at(bytes, 4), page, at);
+    let b = put_natural(b", degrees ", byte_at(bytes, 5), page, a);
+    let c = put_natural(b" ", byte_at(bytes, 6), page, b);
+    put_natural(b", N ", byte_at(bytes, 7), page, c)
 }
 
-fn kind_of(bytes: &[u8]) -> Kind {
-    if check::same(bytes, b"--help") {
-        return Kind::Help;
+fn put_age(bytes: &[u8], from: usize, page: &mut [u8], at: usize) -> usize {
+    if from == 10 {
+        let a = put_natural(b", age ", word_at(bytes, 8), page, at);
+        return put(b" ms", page, a);
     }
-    if check::same(bytes, b"--progress") {
-        return Kind::Progress;
-    }
-    if check::same(bytes, b"--show") {
-        return Kind::Show;
-    }
-    if bytes.len() == 0 {
-        return Kind::Unknown;
-    }
-    if bytes[0] == b'-' {
-        return Kind::Unknown;
-    }
-    Kind::Name
+    put(b", no age", page, at)
 }
 
-fn kind_at(i: usize) -> Kind {
-    let mut buffer = io::buffer();
-    let n = os::arg(i, &mut buffer);
-    if os::errno() != 0 {
-        return Kind::Unknown;
-    }
-    kind_of(&buffer[..n])
+// The control values and the path.
+fn put_lists(
+    bytes: &[u8],
+    from: usize,
+    values: usize,
+    start: usize,
+    path: usize,
+    page: &mut [u8],
+    at: usize,
+) -> usize {
+    let a = put(b"\n  control values in 0.01 mm:", page, at);
+    let b = put_numbers(bytes, from, values, page, a);
+    let c = put(b"\n  path in 1/1024:", page, b);
+    put_numbers(bytes, start, path, page, c)
 }
 
-fn digit(b: u8) -> u64
-    ensures { λ r. ⌜ r ≤ 10 ⌝ }
+// They are told where the body is as long as the degrees say.
+fn put_body(head: Head, bytes: &[u8], from: usize, page: &mut [u8], at: usize) -> usize
+    requires { ⌜ notDegree head ≡ false ⌝ }
 {
-    if b < b'0' {
-        return 10;
+    let values = request::surface_count(head);
+    let path = request::path_count(head);
+    if from > 1000 {
+        return at;
     }
-    if b > b'9' {
-        return 10;
+    if values > 1000 {
+        return at;
     }
-    (b - b'0') as u64
+    if path > 1000 {
+        return at;
+    }
+    let start = from + 2 * values;
+    if start + 2 * path != bytes.len() {
+        return put(b"\n  the body is not as long as the degrees say", page, at);
+    }
+    put_lists(bytes, from, values, start, path, page, at)
 }
 
-// A number from 1 on in decimal digits, or 0 where the bytes are none.
-fn count_of(bytes: &[u8]) -> u64 {
-    let mut n: u64 = 0;
-    let mut i = 0;
-    while i < bytes.len() {
-        let d = digit(bytes[i]);
-        if d == 10 {
-            return 0;
-        }
-        if n > 100000000000000000 {
-            return 0;
-        }
-        n = n * 10 + d;
-        i += 1;
+fn put_wish(head: Head, bytes: &[u8], from: usize, page: &mut [u8], at: usize) -> usize {
+    if request::not_kind(head) {
+        return put(b"\n  there is no such form", page, at);
     }
-    n
-}
-
-fn count_at(i: usize) -> u64 {
-    let mut buffer = io::buffer();
-    let n = os::arg(i, &mut buffer);
-    count_of(&buffer[..n])
-}
-
-// What argument i adds.
-fn with(wish: Wish, i: usize) -> Wish {
-    let mut next = wish;
-    if wish.counting {
-        let n = count_at(i);
-        if n == 0 {
-            next.wrong = i;
-            return next;
-        }
-        next.counting = false;
-        next.show = n;
-        return next;
+    if request::not_degree(head) {
+        return put(b"\n  a degree or N is beyond its bounds", page, at);
     }
-    match kind_at(i) {
-        Kind::Help => {
-            next.help = true;
-        }
-        Kind::Progress => {
-            next.progress = true;
-        }
-        Kind::Show => {
-            next.counting = true;
-        }
-        Kind::Name => {
-            if wish.file == 0 {
-                next.file = i;
-            } else {
-                next.wrong = i;
-            }
-        }
-        Kind::Unknown => {
-            next.wrong = i;
-        }
+    put_body(head, bytes, from, page, at)
+}
+
+fn put_asked(bytes: &[u8], from: usize, page: &mut [u8], at: usize) -> usize {
+    let a = put_head(bytes, page, at);
+    let b = put_age(bytes, from, page, a);
+    put_wish(head_of(bytes), bytes, from, page, b)
+}
+
+// By its kind: without an age, with one, or neither.
+fn put_kind(bytes: &[u8], page: &mut [u8], at: usize) -> usize {
+    let kind = word_at(bytes, 2);
+    if kind == 1 {
+        return put_asked(bytes, 8, page, at);
     }
-    next
-}
-
-// The first argument that is not understood ends the reading of them.
-pub fn read() -> Wish {
-    let mut wish = Wish {
-        help: false,
-        progress: false,
-        counting: false,
-        wrong: 0,
-        file: 0,
-        show: 0,
-    };
-    let count = os::arg_count();
-    let mut i = 1;
-    while i < count {
-        wish = with(wish, i);
-        if wish.wrong != 0 {
-            return wish;
-        }
-        i += 1;
+    if kind != 2 {
+        return put(b": not a request's", page, at);
     }
-    wish
+    if bytes.len() < 10 {
+        return put(b": too short for an age", page, at);
+    }
+    put_asked(bytes, 10, page, at)
 }
 
-// Says which argument is not understood.
-pub fn complain(i: usize) {
-    let mut word = io::buffer();
-    let n = os::arg(i, &mut word);
-    say(b"replay: not understood: ");
-    say(&word[..n]);
-    say(b"\nreplay --help tells what is\n");
+fn put_start(bytes: &[u8], page: &mut [u8], at: usize) -> usize {
+    let a = put_natural(b"request   ", bytes.len() as u64, page, at);
+    put_hex(b" bytes, kind 0x", word_at(bytes, 2), page, a)
 }
 
-pub fn help() {
-    put(
-        b"usage: replay [--progress] [FILE]\n\
-        \x20      replay --show N [FILE]\n\
-        Reads a recorded trace, FILE or standard input, asks the door afresh and writes\n\
-        \x20 calls n   whole pairs of a request and its reply\n\
-        \x20 same n    recorded replies that are today's, byte for byte\n\
-        \x20 differ n  recorded replies that are not\n\
-        \x20 first n   the number of the first that is not, counted from 1, or 0\n\
-        \x20 rest n    bytes from the start of the pair at which the reading ended\n\
-        A trace that cannot be read to its end gives a message on standard error and none of\n\
-        these lines. The exit status is 0 in either case.\n\
-        --progress  tells on standard error how far the reading is\n\
-        --show N    writes pair N in words instead, the recorded reply beside today's\n",
-    );
+fn put_raw(bytes: &[u8], page: &mut [u8], at: usize) -> usize {
+    let a = put(b"\n  bytes:", page, at);
+    let b = put_marked(1000, bytes, page, a);
+    put(b"\n", page, b)
+}
+
+pub fn put_request(bytes: &[u8], page: &mut [u8], at: usize) -> usize {
+    let a = put_start(bytes, page, at);
+    let b = put_kind(bytes, page, a);
+    put_raw(bytes, page, b)
 }

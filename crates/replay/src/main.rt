@@ -1,34 +1,36 @@
 // Replays a recorded night: reads the trace that its argument names, or standard input, asks the door afresh and writes the
-// five numbers, or one pair in words. What goes wrong is said on standard error, and then no number is written.
+// five lines, the pairs that differ, or one pair in words. What goes wrong is said on standard error.
 mod asked;
-mod find;
+mod ending;
+mod entry;
+mod help;
+mod list;
 mod morning;
-mod show;
+mod replied;
 mod text;
+mod wish;
 
 use files::told::verdict;
 
 fn main() {
-    let wish = asked::read();
+    let wish = wish::read(os::arg_count());
+    if wish.wrong != 0 {
+        wish::complain(wish);
+        verdict(2);
+        return;
+    }
     if wish.help {
-        asked::help();
-        verdict(0);
+        verdict(help::print());
+        return;
+    }
+    if wish.version {
+        verdict(files::told::version(b"replay"));
         return;
     }
     if wish.counting {
-        text::say(b"replay: --show asks for the number of a pair, from 1 on\n");
+        files::told::say(b"replay: --show asks for the number of a pair, from 1 on\n");
         verdict(2);
         return;
     }
-    if wish.wrong != 0 {
-        asked::complain(wish.wrong);
-        verdict(2);
-        return;
-    }
-    let wanted = wish.show;
-    if wanted != 0 {
-        verdict(find::run(wish.file, wanted));
-        return;
-    }
-    verdict(morning::run(wish.file, wish.progress));
+    verdict(morning::run(wish.file, wish.list, wish.show, wish.progress));
 }

@@ -1,9 +1,11 @@
-// Replaying a night: its five lines, or why there are none.
-use crate::text::say;
+// The night that is asked for, read and told.
 use files::Stream;
+use files::told::say;
+use files::told::trouble;
+use files::told::written;
 
 fn no_numbers(name: &[u8]) -> u64 {
-    os::fail(name);
+    trouble(b"replay", name);
     say(b"replay: the trace was not read to its end, so there are no numbers\n");
     2
 }
@@ -19,20 +21,43 @@ fn found(differ: u64, rest: u64) -> u64 {
     0
 }
 
-// Replays what comes from an input.
-fn replay_from(from: Stream, name: &[u8], progress: bool) -> u64 {
-    let replayed = night::replay_all(from, progress, files::standard_output());
+// The five lines.
+fn count(from: Stream, name: &[u8], progress: bool) -> u64 {
+    let far = files::progress::begin(progress, from);
+    let replayed = night::replay_all(from, far, files::standard_output());
     let read = replayed.input;
-    let out = replayed.out;
+    let five = replayed.five;
     if read.failed {
         return no_numbers(name);
     }
-    let five = replayed.five;
-    files::told::written(b"replay", out, found(five.differ, five.rest))
+    written(b"replay", replayed.out, found(five.differ, five.rest))
 }
 
-// Replays the trace that argument `file` names, or standard input where that is 0.
-pub fn run(file: usize, progress: bool) -> u64 {
+// The pairs that differ, or one pair in words.
+fn tell(from: Stream, name: &[u8], wanted: u64) -> u64 {
+    let told = crate::list::list(from, wanted, files::standard_output());
+    let read = told.input;
+    let out = told.out;
+    if out.failed {
+        return written(b"replay", out, 2);
+    }
+    if read.failed {
+        trouble(b"replay", name);
+        say(b"replay: the trace was not read to its end\n");
+        return 2;
+    }
+    if wanted == 0 {
+        return found(told.differ, told.rest);
+    }
+    if told.calls < wanted {
+        say(b"replay: the reading ends before that pair\n");
+        return 2;
+    }
+    found(told.differ, 0)
+}
+
+// The trace that argument `file` names, or standard input where that is 0.
+pub fn run(file: usize, list: bool, show: u64, progress: bool) -> u64 {
     let mut name = io::buffer();
     let input = files::open(file, &mut name);
     let n = input.size;
@@ -40,5 +65,11 @@ pub fn run(file: usize, progress: bool) -> u64 {
     if from.failed {
         return no_numbers(&name[..n]);
     }
-    replay_from(from, &name[..n], progress)
+    if list {
+        return tell(from, &name[..n], 0);
+    }
+    if show != 0 {
+        return tell(from, &name[..n], show);
+    }
+    count(from, &name[..n], progress)
 }

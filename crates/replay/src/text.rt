@@ -1,124 +1,98 @@
-// Words and numbers on the standard descriptors.
-use libc::STDERR_FILENO;
-use libc::STDOUT_FILENO;
-ghost use mathlib.Core.Path.{_≡_};
-ghost use Prim.Native.Nat.{_+_, _*_, _≤_, _<_};
-ghost use Rattle.replay.specs.Show.{firstDifference};
-use whole::Num;
+// Bytes and numbers of a record as text on a page, and where two records differ.
+use page::put;
+use page::put_number;
+use wire::byte_at;
+use wire::number_at;
 
-// A message on standard error.
-pub fn say(words: &[u8]) {
-    io::write_all(STDERR_FILENO, words);
+fn digit(n: u64) -> u8 {
+    let d = n % 16;
+    if d < 10 {
+        return 48 + d as u8;
+    }
+    87 + d as u8
 }
 
-// A word, a number and the line's end; whether it could be written.
-pub fn line(fd: i32, word: &[u8], n: u64) -> bool {
-    if !io::write_all(fd, word) {
-        return false;
-    }
-    if !io::print_decimal(fd, n) {
-        return false;
-    }
-    io::write_all(fd, b"\n")
+// A word and a number of two bytes in hexadecimal digits.
+pub fn put_hex(word: &[u8], n: u64, page: &mut [u8], at: usize) -> usize {
+    let a = put(word, page, at);
+    put(
+        &[digit(n / 4096), digit(n / 256), digit(n / 16), digit(n)],
+        page,
+        a,
+    )
 }
 
-pub fn put(words: &[u8]) {
-    io::write_all(STDOUT_FILENO, words);
+// A byte in hexadecimal digits, behind what stands before it.
+fn put_byte(gap: u8, b: u64, page: &mut [u8], at: usize) -> usize {
+    put(&[gap, digit(b / 16), digit(b)], page, at)
 }
 
-// A number; how many digits it has.
-pub fn number(n: u64) -> usize
-    ensures { λ r. ⌜ r ≤ 20 ⌝ }
-{
-    let mut text = [0u8; 20];
-    let k = io::decimal(n, &mut text);
-    put(&text[..k]);
-    if k < 20 { k } else { 20 }
+// Two bytes on, as far as a record can reach.
+fn onward(place: usize) -> usize {
+    if place < 65536 {
+        return place + 2;
+    }
+    place
 }
 
-// Blanks from one column to another.
-pub fn pad(from: usize, to: usize) {
-    let mut i = from;
-    while i < to {
-        put(b" ");
-        i += 1;
-    }
+fn put_next(bytes: &[u8], place: usize, page: &mut [u8], at: usize) -> usize {
+    put_number(b" ", number_at(bytes, place), page, at)
 }
 
-fn wide(x: u8) -> u64
-    ensures { λ r. ⌜ r < 256 ⌝ }
-{
-    x as u64
+// Signed numbers of two bytes from byte `from` on, each after a blank.
+pub fn put_numbers(bytes: &[u8], from: usize, count: usize, page: &mut [u8], at: usize) -> usize {
+    let mut end = at;
+    let mut place = from;
+    let mut k = 0;
+    while k < count {
+        end = put_next(bytes, place, page, end);
+        place = onward(place);
+        k += 1;
+    }
+    end
 }
 
-// A signed number; how many places it takes.
-pub fn signed(n: Num) -> usize
-    ensures { λ r. ⌜ r ≤ 20 ⌝ }
-{
-    let mut text = [0u8; 20];
-    let k = spell::write_number(n, &mut text, 0);
-    put(&text[..k]);
-    k
+// What stands before byte k where one byte is marked.
+fn gap(mark: usize, k: usize) -> u8 {
+    if k == mark {
+        return b'[';
+    }
+    if k == 0 {
+        return b' ';
+    }
+    if k - 1 == mark {
+        return b']';
+    }
+    b' '
 }
 
-// `count` numbers of two bytes that begin at byte `from`.
-pub fn numbers(bytes: &[u8], from: usize, count: usize)
-    requires { ⌜ from + 2 * count < 1000000 ⌝ }
-{
-    let mut i = 0;
-    while i < count {
-        put(b" ");
-        signed(wire::number_at(bytes, from + 2 * i));
-        i += 1;
+// What stands behind the last of k bytes: the end of its mark, or a mark that holds no byte.
+fn put_last(mark: usize, k: usize, page: &mut [u8], at: usize) -> usize {
+    if k == mark {
+        return put(b"[]", page, at);
     }
+    if k == 0 {
+        return at;
+    }
+    if k - 1 == mark {
+        return put(b"]", page, at);
+    }
+    at
 }
 
-// What stands before byte i where one byte is marked.
-fn gap(i: usize, mark: usize) {
-    if i == mark {
-        put(b"[");
-        return;
+// All bytes, each behind a blank, the one at `mark` in brackets.
+pub fn put_marked(mark: usize, bytes: &[u8], page: &mut [u8], at: usize) -> usize {
+    let mut end = at;
+    let mut k = 0;
+    while k < bytes.len() {
+        end = put_byte(gap(mark, k), byte_at(bytes, k), page, end);
+        k += 1;
     }
-    if i == 0 {
-        put(b" ");
-        return;
-    }
-    if i - 1 == mark {
-        put(b"]");
-        return;
-    }
-    put(b" ");
-}
-
-// What stands behind the last of `count` bytes: the end of its mark, or a mark that holds no byte.
-fn end(count: usize, mark: usize) {
-    if count == mark {
-        put(b"[]");
-        return;
-    }
-    if count == 0 {
-        return;
-    }
-    if count - 1 == mark {
-        put(b"]");
-    }
-}
-
-// The bytes, one of them marked.
-pub fn hex(bytes: &[u8], mark: usize) {
-    let mut i = 0;
-    while i < bytes.len() {
-        gap(i, mark);
-        io::print_hex(STDOUT_FILENO, wide(bytes[i]), 2);
-        i += 1;
-    }
-    end(i, mark);
+    put_last(mark, k, page, end)
 }
 
 // The first byte at which two records differ, or where the shorter ends.
-pub fn first_difference(a: &[u8], b: &[u8]) -> usize
-    ensures { λ r. ⌜ r ≡ firstDifference (now (a .entry)) (now (b .entry)) ⌝ }
-{
+pub fn first_difference(a: &[u8], b: &[u8]) -> usize {
     let mut i = 0;
     while i < a.len() {
         if b.len() <= i {

@@ -2,7 +2,7 @@
 use mathlib.Core.Path.{_≡_, refl, sym, ap, _∙_}
 use mathlib.Core.Bool.{Bool, true, false, _||_, false≢true}
 use mathlib.Core.List.{List, [], _++_, append-nil, append-assoc}
-use Prim.Native.Nat.{ℕ, _+_, _-_, _≤_, _<_}
+use Prim.Native.Nat.{ℕ, _+_, _-_, _≤_}
 use native.Mathlib.Omega.{arith}
 use lib.ListN.{length, take, drop, length-append, length-take, length-drop, drop-of-length-le}
 use lib.Seq.{drop-drop, take-all, take-append-add, length-take-le, sets, length-sets}
@@ -10,8 +10,6 @@ use borrow.Author.Tests.{le-ltb}
 use Rattle.pairs.specs.Cut.{longestRecord}
 use Rattle.door.specs.Contract.{replyOf}
 use Rattle.spell.proofs.Writing.{front-read}
-use Rattle.torn.specs.Salvage.{salvage, saved, runs}
-use Rattle.torn.specs.Lines.{cappedLines}
 use Rattle.torn.specs.Window.{skipsAhead, keepsAhead, closedLine, lineAfter, fromAfter, lostAfter, Stands}
 use Rattle.torn.proofs.Going.{stands-none, stands-read, stands-last, stands-next, stands-over, skips-within, keeps-fits, rest-none, rest-small}
 use Rattle.files.specs.declared.Stream.{Stream}
@@ -20,7 +18,6 @@ use Rattle.saver.specs.declared.Place.{Place}
 use Rattle.saver.specs.declared.Stretch.{Stretch}
 use Rattle.saver.specs.Ahead.{lineRoom, stretchOf, Leaves, closing, Closes}
 use Rattle.salvaging.specs.declared.State.{State}
-use Rattle.salvaging.specs.declared.Salvaged.{Salvaged}
 use Rattle.salvaging.specs.Salvaging.{Puts, Holds, Settles, Rests, Reads, Fills, Salvages}
 use Rattle.salvaging.proofs.Sliding.{middle}
 

@@ -1,13 +1,12 @@
 -- Laws of the loops over what lies ahead, and of the line of a run that is over. Assumes nothing.
 use mathlib.Core.Path.{_≡_, refl, sym, ap, _∙_}
-use mathlib.Core.Bool.{Bool, true, false, not, cond}
+use mathlib.Core.Bool.{Bool, true, false, cond}
 use mathlib.Core.List.{List, [], _∷_}
 use Prim.Native.Nat.{ℕ, suc, _+_, _-_, _≤_, _<_}
 use native.Mathlib.Numerals.{add-one}
 use native.Mathlib.Omega.{arith}
-use lib.Dec.{ltb, eqb}
 use lib.ListN.{length, take, drop, length-drop, drop-of-length-le}
-use lib.Seq.{take-all, drop-cons, drop-drop, sets, length-sets}
+use lib.Seq.{take-all, drop-cons, drop-drop, length-sets}
 use borrow.Author.Tests.{le-ltb, lt-ltb, eq-eqb, ne-eqb}
 use Rattle.pairs.specs.Cut.{longestRecord, pairSize}
 use Rattle.pairs.proofs.Cutting.{nothing, front-pair}
@@ -20,9 +19,8 @@ use Rattle.torn.specs.Window.{passes, skipsAhead, keepsAhead, closedLine, lineA
 use Rattle.torn.proofs.Joining.{some-bytes}
 use Rattle.torn.proofs.Saving.{good-both, good-none}
 use Rattle.torn.proofs.Going.{keeps-stop, keeps-more}
-use Rattle.saver.specs.Ahead.{lineRoom, sizeKept, closing, Closes, Left, stretchOf, Leaves}
+use Rattle.saver.specs.Ahead.{lineRoom, sizeKept, closing, Closes, stretchOf, Leaves}
 use Rattle.saver.specs.declared.Place.{Place}
-use Rattle.saver.specs.declared.Stretch.{Stretch}
 use Rattle.saver.proofs.Deciding.{good-of}
 
 -- the rest of a slice

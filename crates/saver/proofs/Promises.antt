@@ -1,5 +1,4 @@
 -- The contracts of crate saver leave no choice: each fixes its result. Assumes nothing.
-use mathlib.Core.Path.{_≡_}
 use mathlib.Core.Bool.{Bool}
 use mathlib.Core.List.{List}
 use Prim.Native.Nat.{ℕ}

@@ -1,10 +1,10 @@
 -- A triangle's sum over any table of terms, from places that are 0: when it may begin, and what it owes. Assumes nothing.
-use mathlib.Core.Path.{_≡_, refl, sym, _∙_, ap, subst}
+use mathlib.Core.Path.{_≡_, refl, sym, _∙_, subst}
 use mathlib.Core.List.{List}
 use Prim.Native.Nat.{ℕ, _+_, _*_, _^_, _≤_, _<_}
 use native.Mathlib.Nat.{add-zero, mul-one, pow-zero}
 use native.Mathlib.Omega.{arith}
-use lib.IntN.{ℤ, pos}
+use lib.IntN.{pos}
 use lib.ListN.{replicate, length-replicate}
 use Rattle.limbs.proofs.Gaining.{room-less, zeros-room}
 use Rattle.net.specs.Net.{Net}
@@ -15,7 +15,7 @@ use Rattle.runs.specs.Budget.{weights}
 use Rattle.runs.proofs.Budget.{budget-is}
 use Rattle.gather.specs.Table.{termsOf, Good}
 use Rattle.gather.specs.Owed.{ofGroup, restAt, owing, duty, Ready}
-use Rattle.gather.proofs.Grouped.{first-of, first-rest}
+use Rattle.gather.proofs.Grouped.{first-rest}
 use Rattle.gather.proofs.Triangles.{all-of}
 use Rattle.sums.proofs.Riding.{owing-single, duty-is}
 

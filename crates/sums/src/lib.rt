@@ -193,7 +193,7 @@ pub fn triangle(t: &[u32; 40], count: usize, surface: &[i32], r: usize, sums: &m
         return gather::last_tri(t, count, net, 0, 1, 0, 1, sums);
     }
     let net = load_tri(surface, r);
-    gather::gather_tri(t, count, net, r, 0, r, 0, 1, sums)
+    gather::gather_tri(t, count, &net, r, 0, r, 0, 1, sums)
 }
 
 // Forms 1 and 2.

@@ -1,7 +1,7 @@
 -- Worked tick lines as tables: lines with their answers, the reading reckoned apart from this program; lines with something wrong, each
 -- with where the wrong word stands, the columns counted by hand; and lines that are no tick lines. Assumes nothing.
 use mathlib.Core.Path.{_≡_, refl}
-use mathlib.Core.Bool.{Bool, false}
+use mathlib.Core.Bool.{false}
 use mathlib.Core.List.{List, [], _∷_, map}
 use Prim.Native.Nat.{ℕ}
 use Rattle.whole.specs.Round.{halfUp, onSideOf, nearest}
@@ -10,7 +10,6 @@ use Rattle.request.specs.Cascade.{first, refused, decided}
 use Rattle.request.specs.Refusal.{least, valuePlace}
 use Rattle.spell.specs.Decimal.{digitsOf, digits, decimal}
 use Rattle.words.specs.Words.{isBlank, isSolid, isDigit, run, every, wordAfter, next, spelled, signed, digitsWithin, numberOf, begins}
-use Rattle.words.specs.declared.Cursor.{Cursor}
 use Rattle.kinds.specs.Kinds.{begun, ended, isWord, isKind, opened, Spoken}
 use Rattle.numbers.specs.Numbers.{number, value, afterValues, values, listed}
 use Rattle.tick.specs.Reading.{carried, between, lower, after, reading}

@@ -4,11 +4,11 @@ use mathlib.Core.List.{List, [], _∷_, _++_, map, append-assoc, append-nil}
 use Prim.Native.Nat.{ℕ, suc, _+_, _-_, _≤_, _<_}
 use native.Mathlib.Nat.{zero-add, add-zero}
 use native.Mathlib.Omega.{arith}
-use lib.ListN.{length, take, drop, length-append}
+use lib.ListN.{length, length-append}
 use lib.Seq.{take-at, drop-at}
 use Rattle.pairs.specs.Cut.{Pair, joined}
 use Rattle.torn.specs.Salvage.{Mark, keeps, skips, keptPairs, saved, Run, closed, runsFrom, runs, putBack, Apart, none, one}
-use Rattle.torn.proofs.Joining.{pairBytes, WholePair, AllWhole, more, whole-some, pair-then}
+use Rattle.torn.proofs.Joining.{pairBytes, AllWhole, more, whole-some, pair-then}
 use Rattle.torn.proofs.Saving.{Saves, over, keep, skip, good-both}
 
 -- what the marks are of

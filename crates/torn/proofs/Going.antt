@@ -1,23 +1,21 @@
 -- The salvage goes on: what is decided of a window, whatever comes behind it; and where it stands then. Assumes nothing.
 use mathlib.Core.Path.{_≡_, refl, sym, ap, _∙_}
-use mathlib.Core.Bool.{Bool, true, false, cond, not, _&&_, _||_, false≢true}
+use mathlib.Core.Bool.{Bool, true, false, false≢true}
 use mathlib.Core.List.{List, [], _∷_, _++_, map, append-assoc, append-nil}
 use Prim.Native.Nat.{ℕ, zero, suc, _+_, _≤_, _<_}
-use native.Mathlib.Nat.{add-assoc}
 use native.Mathlib.Omega.{arith}
-use lib.Dec.{eqb}
 use lib.ListN.{length, take, drop, length-append, length-drop, length-take}
 use lib.Seq.{drop-drop, take-add, length-take-le}
-use borrow.Author.Tests.{eq-eqb, ne-eqb}
-use Rattle.wire.specs.Start.{lengthField, recordIn, behind}
+use borrow.Author.Tests.{ne-eqb}
+use Rattle.wire.specs.Start.{lengthField, behind}
 use Rattle.pairs.specs.Cut.{Pair, startsPair, pairIn, pairSize, joined}
-use Rattle.pairs.proofs.Cutting.{nothing, both, not-both-ways, starts-more, pair-more, behind-both, size-some, front-pair}
+use Rattle.pairs.proofs.Cutting.{nothing, not-both-ways, starts-more, pair-more, behind-both, size-some, front-pair}
 use Rattle.feed.specs.Feed.{capped}
 use Rattle.torn.specs.Salvage.{good, Mark, keeps, skips, salvageIn, salvage, keptPairs, saved, Run, closed, runsFrom, runs}
-use Rattle.torn.specs.Lines.{skipLine, cappedLines}
+use Rattle.torn.specs.Lines.{cappedLines}
 use Rattle.torn.specs.Window.{waits, passes, skipsAhead, keepsIn, keepsAhead}
 use Rattle.torn.specs.Window.{closedLine, lineAfter, fromAfter, lostAfter, Stands}
-use Rattle.torn.proofs.Joining.{pairBytes, some-bytes, front-is}
+use Rattle.torn.proofs.Joining.{some-bytes, front-is}
 use Rattle.torn.proofs.Saving.{Saves, keep, skip, saves, saved-as, good-both, good-is, good-none}
 use Rattle.torn.proofs.Back.{runs-skip, runs-keep, saved-skip, saved-keep}
 use Rattle.torn.proofs.Waiting.{none-will-start, waits-small}

@@ -1,12 +1,12 @@
 -- Pairs that are whole, one after the other, are cut into just these pairs, and nothing is left. Assumes nothing.
-use mathlib.Core.Path.{_≡_, refl, sym, ap, _∙_}
+use mathlib.Core.Path.{_≡_, sym, ap, _∙_}
 use mathlib.Core.Bool.{true}
 use mathlib.Core.List.{List, [], _∷_, _++_, append-assoc}
-use Prim.Native.Nat.{ℕ, _+_, _≤_, _<_}
+use Prim.Native.Nat.{ℕ, _<_}
 use native.Mathlib.Omega.{arith}
 use lib.ListN.{length, take, drop, take-append-drop}
 use lib.Seq.{take-add}
-use Rattle.wire.specs.Start.{lengthField, recordIn, behind}
+use Rattle.wire.specs.Start.{recordIn, behind}
 use Rattle.pairs.specs.Cut.{Pair, startsPair, pairIn, pairSize, cut, joined}
 use Rattle.pairs.proofs.Cutting.{nothing, whole-pair, starts-more, pair-more, behind-both, size-some, front-pair}
 use Rattle.pairs.proofs.Cutting.{Cuts, end, next, cuts, same-cut}

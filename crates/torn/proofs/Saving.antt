@@ -1,16 +1,16 @@
 -- The salvage as a relation, which has one way only; what is kept is whole pairs that pass the test; and a file of such pairs is
 -- kept whole. Assumes nothing.
-use mathlib.Core.Path.{_≡_, refl, sym, ap, _∙_}
-use mathlib.Core.Bool.{Bool, true, false, _&&_}
-use mathlib.Core.List.{List, [], _∷_, _++_, map, append-assoc}
+use mathlib.Core.Path.{_≡_, refl, ap, _∙_}
+use mathlib.Core.Bool.{Bool, true, false}
+use mathlib.Core.List.{List, [], _∷_, map}
 use Prim.Native.Nat.{ℕ, zero, suc, _≤_}
 use native.Mathlib.Omega.{arith}
 use lib.ListN.{length}
 use Rattle.wire.specs.Start.{behind}
-use Rattle.pairs.specs.Cut.{Pair, startsPair, pairIn, joined}
+use Rattle.pairs.specs.Cut.{Pair, startsPair, pairIn}
 use Rattle.pairs.proofs.Cutting.{both, not-both-ways, nothing, shorter, Cuts, end, next}
-use Rattle.torn.specs.Salvage.{answered, good, Mark, keeps, skips, salvageIn, salvage, keptPairs, saved, every}
-use Rattle.torn.proofs.Joining.{AllWhole, none, more, pair-whole, pair-then}
+use Rattle.torn.specs.Salvage.{answered, good, Mark, keeps, skips, salvageIn, salvage, keptPairs, every}
+use Rattle.torn.proofs.Joining.{AllWhole, none, more, pair-whole}
 
 module _ (most : ℕ) (door : List ℕ → List ℕ) where
   pub good-both : (w : List ℕ) → good most door w ≡ true → (startsPair most w ≡ true) × (answered door (pairIn w) ≡ true)

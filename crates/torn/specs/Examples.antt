@@ -1,7 +1,7 @@
 -- A torn trace worked through the definitions, its file and its lines reckoned by hand. The door here answers four bytes of the
 -- request and its length, so that no surface has to be composed to read it. Assumes nothing.
 use mathlib.Core.Path.{_≡_, refl}
-use mathlib.Core.List.{List, [], _∷_, _++_, map}
+use mathlib.Core.List.{List, [], _∷_, _++_}
 use Prim.Native.Nat.{ℕ}
 use lib.ListN.{length, take, drop}
 use Rattle.wire.specs.Words.{wordAt}

@@ -1,5 +1,4 @@
 -- `asking::answered` meets its contract. Assumes nothing.
-use mathlib.Core.Path.{sym}
 use lib.ListN.{length-take}
 use Rattle.names.proofs.Naming.{front-is}
 use Rattle.asking.proofs.Telling.{shown-by, shown-plain}

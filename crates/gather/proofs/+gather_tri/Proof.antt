@@ -38,14 +38,14 @@ use Rattle.steps.proofs.lowered.Reads as lowered-reads
 use Rattle.gather.proofs.+gather_tri.{statement}
 use Rattle.gather.proofs.+gather_tri.Tie.{close}
 
-abbrev μ-gather-tri : Measures 2 gather-tri-kinds.ps ℕ
+abbrev μ-gather-tri : Measures 3 gather-tri-kinds.ps ℕ
 μ-gather-tri κs a = a .1 .1 .1 .0
 
-abbrev gather-tri-at : ℕ → In 2 gather-tri-kinds.ps
-gather-tri-at t = and 2 gather-tri-kinds.ps (is 2 gather-tri-kinds.ps μ-gather-tri t) gather-tri.Pre
+abbrev gather-tri-at : ℕ → In 3 gather-tri-kinds.ps
+gather-tri-at t = and 3 gather-tri-kinds.ps (is 3 gather-tri-kinds.ps μ-gather-tri t) gather-tri.Pre
 
-abbrev gather-tri-below : ℕ → In 2 gather-tri-kinds.ps
-gather-tri-below t = and 2 gather-tri-kinds.ps (falls 2 gather-tri-kinds.ps _<_ μ-gather-tri t) gather-tri.Pre
+abbrev gather-tri-below : ℕ → In 3 gather-tri-kinds.ps
+gather-tri-below t = and 3 gather-tri-kinds.ps (falls 3 gather-tri-kinds.ps _<_ μ-gather-tri t) gather-tri.Pre
 
 abbrev callees : ℕ → gather-tri-lts.Claims
 callees t = (
@@ -74,13 +74,13 @@ callees t = (
 )
 
 abbrev gather-tri-Inv-loop : gather-tri-lts.InvT-loop
-gather-tri-Inv-loop t count left from begun s weight sums₀ net closed formed c₀ b₀ w₀ n₀ sums c b w n =
+gather-tri-Inv-loop t count net left from begun s weight sums₀ closed formed c₀ b₀ w₀ n₀ sums c b w n =
     (c ≤ count) × Counting t count 2 0 (left - 1) from c n
     × Sofar (readAt t count 0 left) (restAt t count 0 left) (termsOf t count (groupAt 0 0 left)) (ofGroup 0 left) from begun weight s (held net) sums₀
     closed c b w sums
 
 abbrev gather-tri-μ-loop : gather-tri-lts.MeasureT-loop
-gather-tri-μ-loop t count left from begun s weight sums₀ net closed formed c₀ b₀ w₀ n₀ sums c b w n = count - c
+gather-tri-μ-loop t count net left from begun s weight sums₀ closed formed c₀ b₀ w₀ n₀ sums c b w n = count - c
 
 one-fewer : (n : ℕ) → 1 < n → n ≡ suc (n - 1)
 one-fewer n some = omega arith
@@ -172,7 +172,7 @@ gather-tri-mul-v t c =
 
 gather-tri-tri-six-requires : (t : ℕ) → gather-tri-lts.Need-tri-six-requires (callees t) (gather-tri-at t) gather-tri.Post gather-tri-Inv-loop gather-tri-μ-loop
 gather-tri-tri-six-requires t c κs =
-    let v = c .before .before in
+    let v = c .before in
     let i = turning t v in (
       rw (v .before .before .before .share .ensures, v .before .before .share2 .ensures) (first t i .pre .1 .2 .both _ (i .loop-test .taken)),
       small-low _ _ (let p = first t i .pre .1 .0 in omega arith) (first t i .pre .1 .1 .total) (first t i .pre .1 .3),
@@ -182,8 +182,8 @@ gather-tri-pair-tri-requires : (t : ℕ)
     → gather-tri-lts.Need-pair-tri-requires (callees t) (gather-tri-at t) gather-tri.Post gather-tri-Inv-loop gather-tri-μ-loop
 gather-tri-pair-tri-requires t c κs =
     let q = c .before .tri-six .ensures in
-    let e = c .before .before .before .if1 .taken in
-    let v = c .before .before .before .before in
+    let e = c .before .before .if1 .taken in
+    let v = c .before .before .before in
     let i = turning t v in (
       next-ready _ _ _ _ _ _ _ _ _ _ (first t i .pre .1 .1) _ 2 e _ _ _ _ _ (i .before .loop .inv .2) (i .loop-test .taken) _ _
           (v .before .key .ensures) (v .weight-of .ensures) false refl _ _ refl refl,
@@ -194,7 +194,7 @@ gather-tri-pair-tri-requires t c κs =
 gather-tri-tri-three-requires : (t : ℕ)
     → gather-tri-lts.Need-tri-three-requires (callees t) (gather-tri-at t) gather-tri.Post gather-tri-Inv-loop gather-tri-μ-loop
 gather-tri-tri-three-requires t c κs =
-    let v = c .before .before .before in
+    let v = c .before .before in
     let i = turning t v in (
       rw (v .before .before .before .share .ensures, v .before .before .share2 .ensures) (first t i .pre .1 .2 .both _ (i .loop-test .taken)),
       small-low _ _ (let p = first t i .pre .1 .0 in omega arith) (first t i .pre .1 .1 .total) (first t i .pre .1 .3),
@@ -204,8 +204,8 @@ gather-tri-last-tri-requires : (t : ℕ)
     → gather-tri-lts.Need-last-tri-requires (callees t) (gather-tri-at t) gather-tri.Post gather-tri-Inv-loop gather-tri-μ-loop
 gather-tri-last-tri-requires t c κs =
     let q = c .before .tri-three .ensures in
-    let e = c .before .before .before .if2 .taken in
-    let v = c .before .before .before .before .before in
+    let e = c .before .before .if2 .taken in
+    let v = c .before .before .before .before in
     let i = turning t v in (
       next-ready _ _ _ _ _ _ _ _ _ _ (first t i .pre .1 .1) _ 1 e _ _ _ _ _ (i .before .loop .inv .2) (i .loop-test .taken) _ _
           (v .before .key .ensures) (v .weight-of .ensures) false refl _ _ refl refl,
@@ -219,7 +219,7 @@ four n some few no3 no2 = omega arith
 
 gather-tri-lowered-requires : (t : ℕ) → gather-tri-lts.Need-lowered-requires (callees t) (gather-tri-at t) gather-tri.Post gather-tri-Inv-loop gather-tri-μ-loop
 gather-tri-lowered-requires t c κs =
-    let v = c .before .before .before in
+    let v = c .before .before in
     let i = turning t v in (
       rw (v .before .before .before .share .ensures, v .before .before .share2 .ensures) (first t i .pre .1 .2 .both _ (i .loop-test .taken)),
       small-low _ _ (let p = first t i .pre .1 .0 in omega arith) (first t i .pre .1 .1 .total) (first t i .pre .1 .3),
@@ -231,7 +231,7 @@ gather-tri-sub-gather-tri t c = omega arith
 gather-tri-gather-tri-requires : (t : ℕ)
     → gather-tri-lts.Need-gather-tri-requires (callees t) (gather-tri-at t) gather-tri.Post gather-tri-Inv-loop gather-tri-μ-loop
 gather-tri-gather-tri-requires t c κs =
-    let q = c .before .lowered .ensures in
+    let q = c .before .before .lowered .ensures in
     let v = c .before .before .before .before .before in
     let i = turning t v in
     let e = four _ (first t i .pre .1 .0) (first t i .pre .1 .1 .total) (c .before .before .before .before .if1 .left)
@@ -253,7 +253,7 @@ Next t v m sums =
     let a = first t i .args in
     let closed = a .weight * i .before .before .before .arrangements .result in
     Counted (a .t .now) (a .count) 2 0 (a .left - 1) (i .before .loop .c) m
-    × Loop (a .t .now) (a .count) 0 0 (a .left) (a .from) (a .begun) (a .s) (a .weight) (a .sums .now) (first t i .pre .1 .1) (held (a .t3)) closed
+    × Loop (a .t .now) (a .count) 0 0 (a .left) (a .from) (a .begun) (a .s) (a .weight) (a .sums .now) (first t i .pre .1 .1) (held (a .net .now)) closed
     (i .before .loop .c + 1) (a .left) closed sums
 
 gather-tri-met : (t : ℕ) (c : gather-tri-lts.Joined1 (callees t) (gather-tri-at t) gather-tri.Post gather-tri-Inv-loop gather-tri-μ-loop)
@@ -265,25 +265,25 @@ gather-tri-met t c =
     (λ x.
     let e = x .0 .taken in
     let d : 2 ≡ first t i .args .left - 1 = omega arith in
-    rw (x .6, x .7) (
-      re-counted d (x .4 .ensures .0),
+    rw (x .5, x .6) (
+      re-counted d (x .3 .ensures .0),
       one-more _ _ _ _ _ _ _ _ _ _ (first t i .pre .1 .1) _ 2 e _ _ _ _ _ (i .before .loop .inv .2) (i .loop-test .taken) _ _
           (v .before .key .ensures) (v .weight-of .ensures) false refl _ _ refl refl (held _)
           (triangle-same _ _ 2 _ _ _ _ _ (let m = first t i .pre .1 .1 .total in omega arith) (v .before .before .before .share .ensures)
-          (v .before .before .share2 .ensures) (x .2 .ensures))
-          _ (all-of ((first t i) .args .t .now) ((first t i) .args .count) _ (let p = (first t i) .pre .1 .0 in omega arith)) _ (x .4 .ensures .1),
+          (v .before .before .share2 .ensures) (x .1 .ensures))
+          _ (all-of ((first t i) .args .t .now) ((first t i) .args .count) _ (let p = (first t i) .pre .1 .0 in omega arith)) _ (x .3 .ensures .1),
     ))
     (⊎-elim
     (λ x.
     let e = x .1 .taken in
     let d : 1 ≡ first t i .args .left - 1 = omega arith in
-    rw (x .7, x .8) (
-      re-counted d (x .5 .ensures .0),
+    rw (x .6, x .7) (
+      re-counted d (x .4 .ensures .0),
       one-more _ _ _ _ _ _ _ _ _ _ (first t i .pre .1 .1) _ 1 e _ _ _ _ _ (i .before .loop .inv .2) (i .loop-test .taken) _ _
           (v .before .key .ensures) (v .weight-of .ensures) false refl _ _ refl refl (held _)
           (triangle-same _ _ 1 _ _ _ _ _ (let m = first t i .pre .1 .1 .total in omega arith) (v .before .before .before .share .ensures)
-          (v .before .before .share2 .ensures) (x .3 .ensures))
-          _ (all-of ((first t i) .args .t .now) ((first t i) .args .count) _ (let p = (first t i) .pre .1 .0 in omega arith)) _ (x .5 .ensures .1),
+          (v .before .before .share2 .ensures) (x .2 .ensures))
+          _ (all-of ((first t i) .args .t .now) ((first t i) .args .count) _ (let p = (first t i) .pre .1 .0 in omega arith)) _ (x .4 .ensures .1),
     ))
     (λ x.
     let e = four _ (first t i .pre .1 .0) (first t i .pre .1 .1 .total) (x .0 .left) (x .1 .left) in
@@ -292,7 +292,7 @@ gather-tri-met t c =
       one-more _ _ _ _ _ _ _ _ _ _ (first t i .pre .1 .1) _ _ (fewer t i) _ _ _ _ _ (i .before .loop .inv .2) (i .loop-test .taken) _ _
           (v .before .key .ensures) (v .weight-of .ensures) false (none-anew _ (first t i .pre .1 .0)) _ _ refl refl (held _)
           (triangle-same _ _ _ _ _ _ _ _ (let m = first t i .pre .1 .1 .total in omega arith) (v .before .before .before .share .ensures)
-          (v .before .before .share2 .ensures) (re-lowered (sym e ∙ fewer t i) (x .3 .ensures)))
+          (v .before .before .share2 .ensures) (re-lowered (sym e ∙ fewer t i) (x .2 .ensures)))
           _ (all-of ((first t i) .args .t .now) ((first t i) .args .count) _ (let p = (first t i) .pre .1 .0 in omega arith)) _ (x .5 .ensures .1),
     )))
     (c .if1 .came)

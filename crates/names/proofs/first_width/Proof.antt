@@ -1,5 +1,4 @@
 -- `names::first_width` meets its contract. Assumes nothing.
-use mathlib.Core.Path.{sym, _∙_}
 use Rattle.names.proofs.Naming.{width-one, width-two, width-none}
 use borrow.Author.Needs.{needs}
 use native.Mathlib.Omega.{arith}

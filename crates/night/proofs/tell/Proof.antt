@@ -5,23 +5,26 @@ use native.Mathlib.Omega.{arith}
 use Rattle.night.proofs.tell.Statement.{statement}
 use Rattle.night.proofs.tell.Tie as tie
 
-slice-aggregate-write-named : tie.Need-slice-aggregate-write-named
-slice-aggregate-write-named c = search needs
+is-due-requires : tie.Need-is-due-requires
+is-due-requires c κs = search needs
+
+returns : tie.Need-returns
+returns c = search needs
 
 finish-requires : tie.Need-finish-requires
 finish-requires c κs = search needs
 
-slice-aggregate-write-named-2 : tie.Need-slice-aggregate-write-named-2
-slice-aggregate-write-named-2 c = search needs
+slice-aggregate-put-far : tie.Need-slice-aggregate-put-far
+slice-aggregate-put-far c = search needs
 
-write-named-requires : tie.Need-write-named-requires
-write-named-requires c κs = search needs
+put-far-requires : tie.Need-put-far-requires
+put-far-requires c κs = search needs
 
 standard-error-requires : tie.Need-standard-error-requires
 standard-error-requires c κs = search needs
 
-array-share-prefix-out : tie.Need-array-share-prefix-out
-array-share-prefix-out c = search needs
+array-share-prefix-page : tie.Need-array-share-prefix-page
+array-share-prefix-page c = search needs
 
 slice-aggregate-write : tie.Need-slice-aggregate-write
 slice-aggregate-write c = simp length-take (omega arith)
@@ -29,27 +32,24 @@ slice-aggregate-write c = simp length-take (omega arith)
 write-requires : tie.Need-write-requires
 write-requires c κs = search needs
 
-returns : tie.Need-returns
-returns c = search needs
+told-requires : tie.Need-told-requires
+told-requires c κs = search needs
 
 returns-2 : tie.Need-returns-2
 returns-2 c = search needs
-
-returns-3 : tie.Need-returns-3
-returns-3 c = search needs
 
 pub tell-spec : {M : Type 1} → statement M
 tell-spec =
     tie.close
     (tie.spec
-    slice-aggregate-write-named
+    is-due-requires
+    returns
     finish-requires
-    slice-aggregate-write-named-2
-    write-named-requires
+    slice-aggregate-put-far
+    put-far-requires
     standard-error-requires
-    array-share-prefix-out
+    array-share-prefix-page
     slice-aggregate-write
     write-requires
-    returns
-    returns-2
-    returns-3)
+    told-requires
+    returns-2)

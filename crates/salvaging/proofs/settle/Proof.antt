@@ -5,7 +5,6 @@ use native.Mathlib.Omega.{arith}
 use lib.ListN.{length}
 use Rattle.salvaging.specs.Salvaging.{Settles}
 use Rattle.salvaging.proofs.Streaming.{settles-none, settles-more, rests-here, rests-over}
-use borrow.Author.Needs.{needs}
 use Rattle.salvaging.proofs.settle.Statement.{statement}
 use Rattle.salvaging.proofs.settle.Tie as tie
 

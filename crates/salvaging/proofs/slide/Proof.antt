@@ -4,7 +4,6 @@ use Prim.Native.Nat.{_-_, _≤_}
 use native.Mathlib.Omega.{arith}
 use lib.ListN.{length, length-set}
 use Rattle.salvaging.proofs.Sliding.{fronted, front-step, front-all}
-use borrow.Author.Needs.{needs}
 use Rattle.salvaging.proofs.slide.Statement.{statement}
 use Rattle.salvaging.proofs.slide.Tie as tie
 

@@ -1,5 +1,4 @@
 -- `saver::ahead` meets its contract: there is no room, nothing is kept, or pairs are. Assumes nothing.
-use mathlib.Core.Path.{_≡_, refl, sym, ap, _∙_}
 use native.Mathlib.Omega.{arith}
 use Rattle.pairs.specs.Cut.{longestRecord}
 use Rattle.door.specs.Contract.{replyOf}

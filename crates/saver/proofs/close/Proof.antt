@@ -1,5 +1,4 @@
 -- `saver::close` meets its contract. Assumes nothing.
-use mathlib.Core.Path.{_≡_, refl, sym, ap, _∙_}
 use native.Mathlib.Omega.{arith}
 use Rattle.saver.proofs.Looking.{close-small, close-none, close-line}
 use borrow.Author.Needs.{needs}

@@ -1,5 +1,5 @@
 -- `saver::cut_off` meets its contract. Assumes nothing.
-use mathlib.Core.Path.{_≡_, refl, sym, ap, _∙_}
+use mathlib.Core.Path.{sym, _∙_}
 use native.Mathlib.Omega.{arith}
 use borrow.Author.Tests.{not-true, not-false}
 use Rattle.saver.proofs.Deciding.{cut-short, cut-none, cut-test}

@@ -1,5 +1,4 @@
 -- `saver::has_length` meets its contract. Assumes nothing.
-use mathlib.Core.Path.{_≡_, refl, sym, ap, _∙_}
 use native.Mathlib.Omega.{arith}
 use Rattle.saver.proofs.Deciding.{length-short, length-test}
 use borrow.Author.Needs.{needs}

@@ -1,5 +1,4 @@
 -- `saver::of_kind` meets its contract. Assumes nothing.
-use mathlib.Core.Path.{_≡_, refl, sym, ap, _∙_}
 use Rattle.saver.proofs.Deciding.{kind-one, kind-other}
 use borrow.Author.Needs.{needs}
 use Rattle.saver.proofs.of_kind.Statement.{statement}

@@ -1,5 +1,5 @@
 -- `saver::passes` meets its contract. Assumes nothing.
-use mathlib.Core.Path.{_≡_, refl, sym, ap, _∙_}
+use mathlib.Core.Path.{ap, _∙_}
 use mathlib.Core.Bool.{not}
 use Rattle.saver.proofs.Deciding.{passes-kept, passes-last, passes-on}
 use borrow.Author.Needs.{needs}

@@ -1,5 +1,5 @@
 -- `saver::size_kept` meets its contract. Assumes nothing.
-use mathlib.Core.Path.{_≡_, refl, sym, ap, _∙_}
+use mathlib.Core.Path.{sym, _∙_}
 use borrow.Author.Tests.{not-true, not-false}
 use Rattle.saver.proofs.Deciding.{kept-none, kept-not-kind, kept-otherwise, kept-here}
 use borrow.Author.Needs.{needs}

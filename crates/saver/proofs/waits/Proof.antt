@@ -1,5 +1,5 @@
 -- `saver::waits` meets its contract. Assumes nothing.
-use mathlib.Core.Path.{_≡_, refl, sym, ap, _∙_}
+use mathlib.Core.Path.{sym, _∙_}
 use borrow.Author.Tests.{not-true, not-false}
 use Rattle.saver.proofs.Deciding.{waits-here, waits-none, waits-behind}
 use borrow.Author.Needs.{needs}

@@ -43,7 +43,7 @@ load-tri-requires c κs = let p = c .before .pre in (p .3, let some = p .0 in le
 
 gather-tri-requires : tie.Need-gather-tri-requires
 gather-tri-requires c κs =
-    let b = c .before in
+    let b = c .before .before in
     let i = b .before in
     let p = i .before .pre in (
       let some = p .0 in let more = i .if1 .left in omega arith,
@@ -57,7 +57,7 @@ same-length-2 c = search needs
 
 returns-2 : tie.Need-returns-2
 returns-2 c =
-    let b = c .before .before .before in
+    let b = c .before .before .before .before in
     let q = c .before .gather-tri .ensures in
     (q .0, triangle-done _ _ _ _ (b .before .before .args .surface .now) (c .before .gather-tri .result) _ _ (b .load-tri .ensures) (q .1))
 

@@ -3,7 +3,6 @@ use mathlib.Core.Path.{refl, sym}
 use Prim.Native.Nat.{_-_}
 use lib.ListN.{length}
 use native.Mathlib.Omega.{arith}
-use borrow.Author.Needs.{needs}
 use Rattle.words.proofs.Marks.{Marking, marking-more, marking-stop, marking-end, begins-short}
 use Rattle.words.proofs.begins.Statement.{statement}
 use Rattle.words.proofs.begins.Tie as tie

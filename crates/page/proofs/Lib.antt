@@ -1,0 +1,2 @@
+-- Laws of putting text on a page. Assumes nothing.
+pub mod Putting

@@ -1,0 +1,2 @@
+-- Text put on a page. Assumes nothing.
+pub mod Page

@@ -1,0 +1,51 @@
+// Text put on a page, a lent buffer, one piece after the other: bytes, and a word with a number. Each function puts its text from a
+// place on, as far as there is room, and answers where it ends.
+ghost use mathlib.Core.Path.{_≡_};
+ghost use lib.ListN.{take};
+ghost use Rattle.page.specs.Page.{Puts, counted, numbered};
+use whole::Num;
+
+pub fn put(text: &[u8], page: &mut [u8], at: usize) -> usize
+    ensures { λ r. ⌜ Puts (now (page .entry)) at (now (text .entry)) (now (page .exit)) r ⌝ }
+{
+    let mut end = at;
+    let mut i = 0;
+    while i < text.len() {
+        if page.len() <= end {
+            return end;
+        }
+        page[end] = text[i];
+        end += 1;
+        i += 1;
+    }
+    end
+}
+
+// A word and a number.
+pub fn put_natural(word: &[u8], n: u64, page: &mut [u8], at: usize) -> usize
+    ensures { λ r. ⌜ Puts (now (page .entry)) at (counted (now (word .entry)) n) (now (page .exit)) r ⌝ }
+{
+    let mut digits = [0u8; 20];
+    let k = spell::write_natural(n, &mut digits, 0);
+    let a = put(word, page, at);
+    put(&digits[..k], page, a)
+}
+
+pub fn put_number(word: &[u8], n: Num, page: &mut [u8], at: usize) -> usize
+    ensures { λ r. ⌜ Puts (now (page .entry)) at (numbered (now (word .entry)) (n .0)) (now (page .exit)) r ⌝ }
+{
+    let mut digits = [0u8; 20];
+    let k = spell::write_number(n, &mut digits, 0);
+    let a = put(word, page, at);
+    put(&digits[..k], page, a)
+}
+
+// The first n bytes of a page, or all of it where there are fewer.
+pub fn front(page: &[u8], n: usize) -> &[u8]
+    ensures { λ r. ⌜ now r ≡ take n (now (page .entry)) ⌝ }
+{
+    if n < page.len() {
+        return &page[..n];
+    }
+    page
+}

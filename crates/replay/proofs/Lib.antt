@@ -1,2 +1,0 @@
--- Laws of the numbers that are shown. Assumes nothing.
-pub mod Shown
