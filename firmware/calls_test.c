@@ -165,16 +165,14 @@ static void put_word(uint8_t *at, uint32_t word)
     at[1] = (uint8_t)(word >> 8 & 255);
 }
 
-static unsigned long door_accepted, compose_accepted, tick_accepted, card_accepted, patch_accepted, sheet_accepted;
+static unsigned long door_accepted, compose_accepted, replay_same, salvage_kept, tick_accepted, card_accepted, patch_accepted, sheet_accepted;
 
-static void at_the_door(unsigned long call)
+enum { RECORD = 256 };
+
+/* any bytes, a request as it should be, or one that is cut off */
+static size_t draw_record(uint8_t *record)
 {
-    uint8_t record[256];
     size_t length;
-    size_t space = below(4) == 0 ? below(LEAN_REPLY_ROOM + 8) : LEAN_REPLY_ROOM;
-    uint8_t *request;
-    uint8_t *reply;
-    size_t answered;
     size_t k;
 
     if (below(8) == 0) {
@@ -208,6 +206,18 @@ static void at_the_door(unsigned long call)
             length = below(length + 1);
         }
     }
+    return length;
+}
+
+static void at_the_door(unsigned long call)
+{
+    uint8_t record[RECORD];
+    const size_t length = draw_record(record);
+    const size_t space = below(4) == 0 ? below(LEAN_REPLY_ROOM + 8) : LEAN_REPLY_ROOM;
+    uint8_t *request;
+    uint8_t *reply;
+    size_t answered;
+
     request = (uint8_t *)block(length);
     memcpy(request, record, length);
     reply = (uint8_t *)block(space);
@@ -232,6 +242,86 @@ static void at_the_door(unsigned long call)
             wrong("written beyond the reply", call);
         }
         door_accepted += said == LEAN_ACCEPTED;
+    }
+    give_back();
+}
+
+/* ---- a recorded trace: up to three requests and the door's replies to them, now and then with a byte changed or cut off */
+
+enum { TRACE = 3 * (RECORD + LEAN_REPLY_ROOM) };
+
+static size_t draw_trace(uint8_t *trace)
+{
+    size_t length = 0;
+    size_t pairs;
+
+    for (pairs = below(4); pairs > 0; pairs--) {
+        const size_t asked = draw_record(trace + length);
+        length += asked + door_reply(trace + length, asked, trace + length + asked, LEAN_REPLY_ROOM);
+    }
+    if (length > 0 && below(4) == 0) {
+        trace[below(length)] ^= (uint8_t)(1 + below(255));
+    }
+    return below(8) == 0 ? below(length + 1) : length;
+}
+
+static void replayed(unsigned long call)
+{
+    uint8_t drawn_trace[TRACE];
+    const size_t length = draw_trace(drawn_trace);
+    const size_t words_length = below(8) == 0 ? below(8) : LEAN_REPLAY_WORDS;
+    uint8_t *trace = (uint8_t *)block(length);
+    uint64_t *words = (uint64_t *)block(words_length * sizeof(uint64_t));
+    uint32_t code;
+
+    memcpy(trace, drawn_trace, length);
+    code = lean_replay(trace, length, words, words_length);
+    if (code != (words_length < LEAN_REPLAY_WORDS ? 1u : 0u) || memcmp(trace, drawn_trace, length) != 0) {
+        wrong("another code of the replay, or the trace was written", call);
+    }
+    if (code == 0) {
+        if (words[0] > 3 || words[1] + words[2] != words[0] || words[3] > words[0] || (words[3] == 0) != (words[2] == 0) || words[4] > length ||
+            !filled(words + LEAN_REPLAY_WORDS, (words_length - LEAN_REPLAY_WORDS) * sizeof *words)) {
+            wrong("the replay's words", call);
+        }
+        replay_same += words[1];
+    } else if (!filled(words, words_length * sizeof *words)) {
+        wrong("written without room", call);
+    }
+    give_back();
+}
+
+static void salvaged(unsigned long call)
+{
+    uint8_t drawn_trace[TRACE];
+    const size_t length = draw_trace(drawn_trace);
+    const size_t words_length = below(8) == 0 ? below(8) : LEAN_SALVAGE_WORDS;
+    const size_t line_length = below(8) == 0 ? below(LEAN_SALVAGE_LINE + 8) : LEAN_SALVAGE_LINE;
+    uint8_t *window = (uint8_t *)block(length);
+    uint64_t *words = (uint64_t *)block(words_length * sizeof(uint64_t));
+    uint8_t *line = (uint8_t *)block(line_length);
+    const int fits = words_length >= LEAN_SALVAGE_WORDS && line_length >= LEAN_SALVAGE_LINE;
+    const uint32_t last = (uint32_t)below(2);
+    uint32_t code;
+
+    memcpy(window, drawn_trace, length);
+    if (words_length >= 2 && fits) {
+        words[0] = below(2) == 0 ? 0 : drawn();
+        words[1] = below(2) == 0 ? 0 : drawn();
+    }
+    code = lean_salvage(window, length, last, words, words_length, line, line_length);
+    if (code != (fits ? 0u : 1u) || memcmp(window, drawn_trace, length) != 0) {
+        wrong("another code of the salvage, or the window was written", call);
+    }
+    if (fits) {
+        if (words[2] > length || words[3] > length - words[2] || (last != 0 && length > 0 && words[2] + words[3] == 0) || words[4] > LEAN_SALVAGE_LINE ||
+            !filled(words + LEAN_SALVAGE_WORDS, (words_length - LEAN_SALVAGE_WORDS) * sizeof *words) ||
+            !filled(line + words[4], line_length - (size_t)words[4])) {
+            wrong("the salvage's words", call);
+        }
+        salvage_kept += words[3] > 0;
+    } else if (!filled(words, words_length * sizeof *words) || !filled(line, line_length)) {
+        wrong("written without room", call);
     }
     give_back();
 }
@@ -445,7 +535,7 @@ int main(int count, char **arguments)
         room[k] = (unsigned char *)at;
     }
     for (k = 0; k < calls; k++) {
-        switch (k % 6) {
+        switch (k % 8) {
         case 0:
             at_the_door(k);
             break;
@@ -461,16 +551,24 @@ int main(int count, char **arguments)
         case 4:
             patched(k);
             break;
+        case 5:
+            replayed(k);
+            break;
+        case 6:
+            salvaged(k);
+            break;
         default:
             sheeted(k);
         }
     }
-    if (calls >= 1000 && (door_accepted == 0 || compose_accepted == 0 || tick_accepted == 0 || card_accepted == 0 || patch_accepted == 0 ||
-                          sheet_accepted == 0)) {
+    if (calls >= 1000 && (door_accepted == 0 || compose_accepted == 0 || replay_same == 0 || salvage_kept == 0 || tick_accepted == 0 ||
+                          card_accepted == 0 || patch_accepted == 0 || sheet_accepted == 0)) {
         printf("some function never accepted\n");
         return 1;
     }
-    printf("%lu calls, seed %s, %s: accepted %lu at the door, %lu composed, %lu read, %lu on the card, %lu patches, %lu sheets\n", calls, arguments[2],
-           arguments[1], door_accepted, compose_accepted, tick_accepted, card_accepted, patch_accepted, sheet_accepted);
+    printf("%lu calls, seed %s, %s: accepted %lu at the door, %lu composed, %lu replies the same, %lu salvaged, %lu read, %lu on the card, "
+           "%lu patches, %lu sheets\n",
+           calls, arguments[2], arguments[1], door_accepted, compose_accepted, replay_same, salvage_kept, tick_accepted, card_accepted, patch_accepted,
+           sheet_accepted);
     return 0;
 }

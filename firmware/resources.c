@@ -1,8 +1,8 @@
 /* What a call takes: the stack, painted before the call and looked through behind it, for the rides that take most, by form, and for each
- * other C function. Prints the greatest of each function in bytes, and fails where one takes more than is allowed. Under
- * callgrind each call at the door is one dump, in the order in which they are printed.
+ * other C function; those that read a trace are handed one of such rides. Prints the greatest of each function in bytes, and fails
+ * where one takes more than is allowed. Under callgrind each call is one dump, in the order in which they are printed.
  *   resources stack BYTES     every function
- *   resources door            the rides at the door alone, a call each
+ *   resources calls           the rides at the door, and each function whose work does not grow with its input, a call each
  */
 #define _XOPEN_SOURCE 700
 #include "lean.h"
@@ -144,6 +144,58 @@ static void call_patch(void)
     }
 }
 
+/* The ride and the door's reply to it, again and again: a trace that is replayed, one that is salvaged, and a day. */
+enum { PAIRS = 100 };
+static uint8_t trace[PAIRS * (LEAN_MOST_REQUEST + LEAN_REPLY_ROOM)];
+static size_t trace_length;
+
+static void lay_trace(void)
+{
+    const size_t answered = door_reply(record, length, reply, sizeof reply);
+    size_t k;
+
+    trace_length = 0;
+    for (k = 0; k < PAIRS; k++) {
+        memcpy(trace + trace_length, record, length);
+        memcpy(trace + trace_length + length, reply, answered);
+        trace_length += length + answered;
+    }
+}
+
+static void call_replay(void)
+{
+    if (lean_replay(trace, trace_length, words, LEAN_REPLAY_WORDS) != 0 || words[0] != PAIRS || words[1] != PAIRS) {
+        printf("%s is not replayed\n", asked->name);
+        exit(1);
+    }
+}
+
+static void call_salvage(void)
+{
+    static uint8_t line[LEAN_SALVAGE_LINE];
+
+    memset(words, 0, sizeof words);
+    if (lean_salvage(trace, trace_length, 1, words, LEAN_SALVAGE_WORDS, line, sizeof line) != 0 || words[2] != 0 || words[3] != trace_length) {
+        printf("%s is not kept\n", asked->name);
+        exit(1);
+    }
+}
+
+static void call_sheet(void)
+{
+    static uint8_t held[LEAN_SHEET_HELD];
+    static uint64_t counts[LEAN_SHEET_COUNTS];
+    static uint64_t refusals[LEAN_SHEET_REFUSALS];
+    static int64_t span[LEAN_SHEET_SPAN];
+    const uint64_t before = refusals[0];
+
+    lean_sheet(held, counts, refusals, span, trace, trace_length);
+    if (refusals[0] != before + PAIRS) {
+        printf("%s is not in the sheet\n", asked->name);
+        exit(1);
+    }
+}
+
 /* ---- the stack */
 
 static ucontext_t here, there;
@@ -179,41 +231,70 @@ static size_t used(void (*call)(void))
     return sizeof stack - k;
 }
 
-int main(int count, char **arguments)
+/* every function, by its name; what is left is the most that it took */
+enum { DOOR, COMPOSE, REPLAY, SALVAGE, SHEET, TICK, CARD, PATCH, FUNCTIONS };
+
+static const struct {
+    const char *name;
+    void (*call)(void);
+} functions[FUNCTIONS] = {
+    {"door_reply", call_door}, {"lean_compose", call_compose}, {"lean_replay", call_replay}, {"lean_salvage", call_salvage},
+    {"lean_sheet", call_sheet}, {"lean_tick", call_tick},      {"lean_card", call_card},     {"lean_patch", call_patch},
+};
+
+static int stacks(size_t allowed)
 {
-    size_t door = 0, compose = 0, most;
-    size_t tick, card, patch;
+    size_t most[FUNCTIONS] = {0};
+    int over_it = 0;
+    size_t k, f;
+
+    for (k = 0; k < RIDES; k++) {
+        lay(&rides[k]);
+        lay_trace();
+        for (f = 0; f < FUNCTIONS; f++) {
+            const size_t without = used(nothing);
+            const size_t with = used(functions[f].call) - without;
+            most[f] = with > most[f] ? with : most[f];
+        }
+    }
+    printf("stack, in bytes:");
+    for (f = 0; f < FUNCTIONS; f++) {
+        printf(" %s %zu,", functions[f].name, most[f]);
+        over_it |= most[f] == 0 || most[f] > allowed;
+    }
+    printf(" at most %zu\n", allowed);
+    return over_it;
+}
+
+static void calls(void)
+{
     size_t k;
 
-    if (count == 2 && strcmp(arguments[1], "door") == 0) {
-        for (k = 0; k < RIDES; k++) {
-            lay(&rides[k]);
-            call_door();
-            printf("%s\n", rides[k].name);
-        }
+    for (k = 0; k < RIDES; k++) {
+        lay(&rides[k]);
+        call_door();
+        printf("door_reply, %s\n", rides[k].name);
+        call_compose();
+        printf("lean_compose, %s\n", rides[k].name);
+    }
+    lay(&rides[0]);
+    call_tick();
+    printf("lean_tick, 25 points\n");
+    call_card();
+    printf("lean_card, a line of degree 4\n");
+    call_patch();
+    printf("lean_patch, degrees 3 3\n");
+}
+
+int main(int count, char **arguments)
+{
+    if (count == 2 && strcmp(arguments[1], "calls") == 0) {
+        calls();
         return 0;
     }
     if (count != 3 || strcmp(arguments[1], "stack") != 0) {
-        printf("usage: resources stack BYTES | resources door\n");
+        printf("usage: resources stack BYTES | resources calls\n");
         return 2;
     }
-    most = strtoul(arguments[2], NULL, 10);
-    for (k = 0; k < RIDES; k++) {
-        size_t here_door, here_compose;
-        const size_t without = used(nothing);
-        lay(&rides[k]);
-        here_door = used(call_door) - without;
-        here_compose = used(call_compose) - without;
-        printf("%s: %zu bytes of stack at the door, %zu on numbers\n", rides[k].name, here_door, here_compose);
-        door = here_door > door ? here_door : door;
-        compose = here_compose > compose ? here_compose : compose;
-    }
-    lay(&rides[0]);
-    call_compose();
-    tick = used(call_tick) - used(nothing);
-    card = used(call_card) - used(nothing);
-    patch = used(call_patch) - used(nothing);
-    printf("stack, in bytes: door_reply %zu, lean_compose %zu, lean_tick %zu, lean_card %zu, lean_patch %zu; at most %zu\n", door, compose, tick,
-           card, patch, most);
-    return door > most || compose > most || tick > most || card > most || patch > most;
+    return stacks(strtoul(arguments[2], NULL, 10));
 }

@@ -3,7 +3,8 @@
  * Each array is a pointer and a length in elements. Ranges must not overlap where one of them is written, and no pointer may be
  * null, also where its length is 0. Any numbers are legal, and so are arrays of any lengths: what is wrong is answered. Each
  * function always returns. Each is reentrant: it keeps nothing between calls, allocates nothing and calls nothing but memcpy,
- * memmove, memset and memcmp. An array stands where its element type may stand. Stack, time and code size: docs/FIRMWARE.md.
+ * memmove, memset and memcmp. An array stands where its element type may stand. Vector registers (SSE2 on x86-64, NEON on AArch64) are
+ * used for whole numbers too: an interrupt that calls a function must save them. Stack, time and code size: docs/FIRMWARE.md.
  */
 #ifndef LEAN_H
 #define LEAN_H
@@ -47,6 +48,33 @@ uint32_t lean_compose(uint32_t form, uint32_t first, uint32_t second, uint32_t N
                       const int32_t *surface, size_t surface_length, const int32_t *path, size_t path_length,
                       int64_t *high, size_t high_length, uint64_t *low, size_t low_length,
                       int32_t *points, size_t points_length, uint64_t *words, size_t words_length) LEAN_NONNULL;
+
+/* ---- a recorded trace, replayed: request, reply, request, reply, as bytes */
+
+enum { LEAN_REPLAY_WORDS = 5 }; /* calls, same, differ, first, rest */
+
+/* Asks the door afresh for each request of a whole trace and compares its reply with the recorded one. Writes to the first five words
+ * how many pairs there are, how many replies are today's, how many are not, the number of the first that is not, from 1 on (0 where
+ * there is none), and how many bytes are left from the pair on at which the reading ended. Any bytes are a trace. Returns 0; or 1
+ * where there are fewer than five words, and then nothing is written. Later words stay. */
+uint32_t lean_replay(const uint8_t *trace, size_t trace_length, uint64_t *words, size_t words_length) LEAN_NONNULL;
+
+/* ---- a torn trace, salvaged */
+
+enum {
+    LEAN_SALVAGE_WORDS = 5, /* where the open run of skipped bytes began and how long it is; then what a call tells: skipped, kept, line */
+    LEAN_SALVAGE_LINE = 47  /* the bytes of the longest line */
+};
+
+/* Looks ahead in a window: the bytes of a torn trace from where the last call left off, behind which no more come where `last` is not 0.
+ * So many bytes at its front are skipped, whatever comes behind the window, and so many behind them are pairs that are kept, since the door
+ * gives their replies today. words[0] and words[1], at first 0, are carried from call to call; words[2] is how many bytes are skipped, words[3]
+ * how many are kept, and words[4] how many bytes of `line` are the line of a run that is over, "skip OFFSET LENGTH" and a newline. Go on
+ * behind both; where both are 0 the window needs more bytes (it has less than two records then), and where none come all is told but
+ * the run that is still open, words[0] and words[1]. Returns 0; or 1 where there are fewer than five words or 47 bytes of line, and
+ * then nothing is written. Later words and bytes stay. */
+uint32_t lean_salvage(const uint8_t *window, size_t window_length, uint32_t last, uint64_t *words, size_t words_length,
+                      uint8_t *line, size_t line_length) LEAN_NONNULL;
 
 /* ---- the daily sheet, fed as it comes ----
  *

@@ -25,7 +25,7 @@ pub struct Net {
     form: Form,
     first: usize,
     second: usize,
-    values: [i128; MOST],
+    values: [i64; MOST],
 }
 
 impl Net {
@@ -53,7 +53,7 @@ impl Net {
     }
 
     /// The number at (i, j).
-    fn at(&self, i: usize, j: usize) -> i128 {
+    fn at(&self, i: usize, j: usize) -> i64 {
         self.values[self.index(i, j)]
     }
 
@@ -73,7 +73,7 @@ impl Net {
             values: [0; MOST],
             ..*self
         };
-        let (far, near) = (u.wide(), i128::from(SCALE) - u.wide());
+        let (far, near) = (u.wide(), i64::from(SCALE) - u.wide());
         for i in 0..=lower.first {
             for j in 0..=lower.second {
                 lower.values[lower.index(i, j)] = near * self.at(i, j) + far * self.at(i + 1, j);
@@ -89,7 +89,7 @@ impl Net {
             values: [0; MOST],
             ..*self
         };
-        let (far, near) = (v.wide(), i128::from(SCALE) - v.wide());
+        let (far, near) = (v.wide(), i64::from(SCALE) - v.wide());
         for i in 0..=lower.first {
             for j in 0..=lower.second {
                 lower.values[lower.index(i, j)] = near * self.at(i, j) + far * self.at(i, j + 1);
@@ -115,10 +115,15 @@ impl Net {
         lower
     }
 
+    /// How many arguments it still owes.
+    pub fn arguments(&self) -> usize {
+        self.first + self.second
+    }
+
     /// The one number of a net of degree 0.
-    fn only(&self) -> i128 {
-        assert_eq!(self.first + self.second, 0, "arguments are still owed");
-        self.values[0]
+    pub fn only(&self) -> i128 {
+        assert_eq!(self.arguments(), 0, "arguments are still owed");
+        i128::from(self.values[0])
     }
 }
 

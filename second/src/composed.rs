@@ -1,7 +1,7 @@
 //! The composed net: the sum over every choice.
 
 use crate::binomial::binomial;
-use crate::blossom::{blossom, Argument, Net};
+use crate::blossom::{Argument, Net};
 use crate::edition::Edition;
 use crate::quantity::{PathNumber, Travel};
 use crate::refusal::Refused;
@@ -34,33 +34,37 @@ pub fn composed(
 /// the binomials (N over number) times the blossom value at those points.
 /// With r = 0 there is one empty choice.
 pub fn numerators(shape: &Shape, surface: &[Travel], path: &[PathNumber]) -> Vec<i128> {
-    let net = Net::of(shape, surface);
     let mut sums = vec![0; shape.length() + 1];
-    for choice in choices(shape.arguments(), shape.path_degree) {
-        let arguments = choice
-            .iter()
-            .enumerate()
-            .map(|(turn, &number)| argument(shape, path, turn, number));
-        let ways: i128 = choice
-            .iter()
-            .map(|&number| binomial(shape.path_degree, number))
-            .product();
-        sums[choice.iter().sum::<usize>()] += ways * blossom(net, arguments);
-    }
+    let ways: Vec<i128> = (0..=shape.path_degree)
+        .map(|number| binomial(shape.path_degree, number))
+        .collect();
+    let net = Net::of(shape, surface);
+    each_choice(shape, path, &ways, &net, (0, 1), &mut sums);
     sums
 }
 
-/// Every choice of `arguments` numbers, each in 0 to `most`.
-fn choices(arguments: usize, most: usize) -> impl Iterator<Item = Vec<usize>> {
-    let base = most + 1;
-    (0..base.pow(arguments as u32)).map(move |mut code| {
-        let mut choice = vec![0; arguments];
-        for number in &mut choice {
-            *number = code % base;
-            code /= base;
-        }
-        choice
-    })
+/// Every choice for the arguments that a net still owes, where the numbers
+/// chosen so far add to the first of `chosen` and their binomials multiply
+/// to the second. The net that they made is not worked out again for each
+/// choice that goes on from them.
+fn each_choice(
+    shape: &Shape,
+    path: &[PathNumber],
+    ways: &[i128],
+    net: &Net,
+    chosen: (usize, i128),
+    sums: &mut [i128],
+) {
+    let turn = shape.arguments() - net.arguments();
+    let (sum, product) = chosen;
+    if net.arguments() == 0 {
+        sums[sum] += product * net.only();
+        return;
+    }
+    for (number, way) in ways.iter().enumerate() {
+        let lower = net.lowered(argument(shape, path, turn, number));
+        each_choice(shape, path, ways, &lower, (sum + number, product * way), sums);
+    }
 }
 
 /// The argument at `turn` when it takes path point `number`.
@@ -77,16 +81,29 @@ fn argument(shape: &Shape, path: &[PathNumber], turn: usize, number: usize) -> A
 
 #[cfg(test)]
 mod tests {
-    use super::choices;
+    use super::numerators;
+    use crate::quantity::{PathNumber, Travel};
+    use crate::shape::{Form, Shape};
 
+    /// With every value 1 each blossom value is 1024^r, so that a numerator
+    /// counts its choices with their binomials: (L over R) of them, and
+    /// each choice once.
     #[test]
     fn each_choice_comes_once() {
-        assert_eq!(choices(0, 3).collect::<Vec<_>>(), [vec![]]);
-        let mut all: Vec<_> = choices(4, 3).collect();
-        assert_eq!(all.len(), 256);
-        all.sort();
-        all.dedup();
-        assert_eq!(all.len(), 256);
-        assert!(all.iter().flatten().all(|&number| number <= 3));
+        let shape = Shape {
+            form: Form::Curve,
+            first: 4,
+            second: 0,
+            path_degree: 3,
+        };
+        let ones = vec![Travel::new(1).unwrap(); 5];
+        let path: Vec<PathNumber> = [0, 300, 700, 1024]
+            .map(|u| PathNumber::new(u).unwrap())
+            .to_vec();
+        let counts = [1, 12, 66, 220, 495, 792, 924, 792, 495, 220, 66, 12, 1];
+        assert_eq!(
+            numerators(&shape, &ones, &path),
+            counts.map(|count| count << 40)
+        );
     }
 }

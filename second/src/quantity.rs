@@ -17,8 +17,8 @@ impl Travel {
     }
 
     /// The value, wide.
-    pub fn wide(self) -> i128 {
-        i128::from(self.0)
+    pub fn wide(self) -> i64 {
+        i64::from(self.0)
     }
 }
 
@@ -33,7 +33,7 @@ impl PathNumber {
     }
 
     /// The value, wide.
-    pub fn wide(self) -> i128 {
-        i128::from(self.0)
+    pub fn wide(self) -> i64 {
+        i64::from(self.0)
     }
 }

@@ -53,13 +53,13 @@ pub fn surface(shape: &Shape, surface: &[Travel], path: &[PathNumber], k: i128, 
             let numbers: Vec<i128> = path[part..]
                 .iter()
                 .step_by(parts)
-                .map(|p| p.wide())
+                .map(|p| i128::from(p.wide()))
                 .collect();
             bernstein(&numbers, k, q)
         })
         .collect();
     let whole = 1024 * power(q, shape.path_degree);
-    let values: Vec<i128> = surface.iter().map(|travel| travel.wide()).collect();
+    let values: Vec<i128> = surface.iter().map(|travel| i128::from(travel.wide())).collect();
     match shape.form {
         Form::Curve => bernstein(&values, place[0], whole),
         Form::Tensor => {

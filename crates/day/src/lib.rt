@@ -87,7 +87,7 @@ pub fn sheet_all(input: Stream, progress: bool, out: Stream) -> Told
             sheet,
         };
     }
-    let n = sheets::write_sheet(sheet, &mut lines);
+    let n = sheet_lines::write_sheet(sheet, &mut lines);
     Told {
         input: behind,
         out: files::write(out, &lines[..n]),

@@ -34,7 +34,7 @@ pub fn more(n: u64) -> u64
 }
 
 // A byte more.
-pub fn put(most: usize, held: &mut [u8], rest: u64, b: u8) -> Turn
+fn put(most: usize, held: &mut [u8], rest: u64, b: u8) -> Turn
     ensures { λ r. ⌜ Puts most (now (held .entry)) rest b (now (held .exit)) r ⌝ }
 {
     let next = more(rest);

@@ -23,11 +23,12 @@ pub fn is_at(i: usize, word: &[u8]) -> bool {
     args::is(&found[..n], word)
 }
 
-// What the arguments ask for, of a program with no options of its own: the first word that it does not understand (0 for none),
-// the arguments that are its first and its second name, and one that is a name too many.
+// What the arguments ask for, of a program whose one option is `--progress`: the first word that it does not understand (0 for
+// none), the arguments that are its first and its second name, and one that is a name too many.
 struct Wish {
     help: bool,
     version: bool,
+    progress: bool,
     rest: bool,
     wrong: usize,
     first: usize,
@@ -50,6 +51,16 @@ fn with_name(wish: Wish, i: usize) -> Wish {
     next
 }
 
+fn with_option(wish: Wish, i: usize) -> Wish {
+    let mut next = wish;
+    if is_at(i, b"--progress") {
+        next.progress = true;
+        return next;
+    }
+    next.wrong = i;
+    next
+}
+
 fn with(wish: Wish, i: usize) -> Wish {
     let mut next = wish;
     match kind_at(i, wish.rest) {
@@ -63,7 +74,7 @@ fn with(wish: Wish, i: usize) -> Wish {
             next.rest = true;
         }
         Kind::Option => {
-            next.wrong = i;
+            next = with_option(wish, i);
         }
         Kind::Name => {
             next = with_name(wish, i);
@@ -87,6 +98,7 @@ fn read(count: usize) -> Wish {
     let mut wish = Wish {
         help: false,
         version: false,
+        progress: false,
         rest: false,
         wrong: 0,
         first: 0,
@@ -104,9 +116,10 @@ fn read(count: usize) -> Wish {
     wish
 }
 
-// Whether there is work to do, and the arguments that are its names, 0 where there is none.
+// Whether there is work to do, whether to tell how far it is, and the arguments that are its names, 0 where there is none.
 pub struct Named {
     pub go: bool,
+    pub progress: bool,
     pub first: usize,
     pub second: usize,
 }
@@ -116,6 +129,7 @@ fn settled(status: u64) -> Named {
     told::verdict(status);
     Named {
         go: false,
+        progress: false,
         first: 0,
         second: 0,
     }
@@ -167,6 +181,7 @@ pub fn names(program: &[u8], help: &[u8], least: usize, most: usize) -> Named {
     }
     Named {
         go: true,
+        progress: wish.progress,
         first: wish.first,
         second: wish.second,
     }

@@ -1,8 +1,7 @@
 // The daily sheet: reads the trace that its argument names, or standard input, and writes the fourteen lines. What goes wrong is said on
 // standard error, and then no line is written.
-mod asked;
-
 use files::Stream;
+use files::program;
 
 fn no_sheet(name: &[u8]) -> u64 {
     files::told::trouble(b"sheet", name);
@@ -35,10 +34,25 @@ fn run(file: usize, progress: bool) -> u64 {
 }
 
 fn main() {
-    let wish = asked::read(os::arg_count());
-    if !asked::is_settled(wish) {
-        files::told::verdict(run(wish.file, wish.progress));
-        return;
+    let named = program::names(
+        b"sheet",
+        b"usage: sheet [--progress] [FILE]\n\
+        Reads a recorded trace, FILE or standard input, and writes the sheet of its replies:\n\
+        \x20 odd n        replies of another kind, with a number above 10, of a length other than\n\
+        \x20              8 + 2 times their count, or refused with a count\n\
+        \x20 refusal k n  of the others, how many have number k: 0 for accepted, to 10\n\
+        \x20 least v      the least of the accepted points, or none\n\
+        \x20 most v       the greatest, or none\n\
+        Reading ends as in replay: at a length that no record has, or a pair that is cut off.\n\
+        A trace that cannot be read to its end gives a message on standard error and no line.\n\
+        --progress  tells on standard error how far the reading is\n\
+        --help      writes this text\n\
+        --version   writes the version\n\
+        Exit status: 0 the sheet is written, 2 trouble.\n",
+        0,
+        1,
+    );
+    if named.go {
+        files::told::verdict(run(named.first, named.progress));
     }
-    files::told::verdict(asked::settle(wish));
 }

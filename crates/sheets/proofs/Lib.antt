@@ -1,5 +1,4 @@
--- The laws of the sheet: its leaves; the fold of the pairs is the sheet of the whole trace; its lines. Assumes nothing.
+-- The laws of the sheet: its leaves; the fold of the pairs is the sheet of the whole trace. Assumes nothing.
 pub mod Leaves
 pub mod Adding
-pub mod Telling
 pub mod Promises

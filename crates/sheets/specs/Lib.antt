@@ -1,5 +1,4 @@
--- The daily sheet: of the whole trace, as a fold of its pairs, as bytes, and worked. Assumes nothing.
+-- The daily sheet: of the whole trace, as a fold of its pairs, and worked. Assumes nothing.
 pub mod Sheet
 pub mod Fold
-pub mod Lines
 pub mod Examples

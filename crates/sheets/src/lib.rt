@@ -1,8 +1,5 @@
-// The daily sheet of a recorded trace (02, ticket 12): its types, by value, what one reply more adds to it, and its fourteen lines as
-// bytes. What a sheet is stands in specs/Sheet.antt. No function that is public asks anything of its caller.
-mod lines;
-
-pub use lines::write_sheet;
+// The daily sheet of a recorded trace (02, ticket 12): its types, by value, and what one reply more adds
+// to it. What a sheet is stands in specs/Sheet.antt. No function that is public asks anything of its caller.
 ghost use mathlib.Core.Path.{_≡_};
 ghost use Prim.Native.Nat.{_≤_};
 ghost use lib.Signed.{ltZ};

@@ -4,7 +4,7 @@ use native.Mathlib.Omega.{arith}
 use lib.ListN.{length-take}
 use Rattle.pairs.specs.Cut.{longestRecord}
 use Rattle.sheets.specs.Sheet.{sheetIn}
-use Rattle.sheets.specs.Lines.{sheetLines, linesRoom}
+use Rattle.sheet_lines.specs.Lines.{sheetLines, linesRoom}
 use Rattle.daily.specs.declared.State.{State}
 use Rattle.daily.specs.Read.{blankState, afterPart}
 use Rattle.daily.proofs.Promises.{same-sheet}

@@ -1,3 +1,0 @@
--- Laws of seeking. Assumes nothing.
-pub mod Sought
-pub mod Promises
