@@ -49,29 +49,29 @@ static int refused(const char *name, const uint8_t *request, size_t length, uint
 
 int main(void)
 {
-    /* P1 of document 01: a straight surface from 0 to 100, ridden from end to end */
-    static const uint8_t ride[] = {16, 0, 1, 0, 1, 1, 0, 1, 0, 0, 100, 0, 0, 0, 0, 4};
+    /* P1 of document 01: a straight surface from 0 to 100, ridden from end to end, on a tilt sample of this very moment */
+    static const uint8_t ride[] = {18, 0, 2, 0, 1, 1, 0, 1, 0, 0, 0, 0, 100, 0, 0, 0, 0, 4};
     static const uint8_t points[] = {12, 0, 1, 0x80, 0, 0, 2, 0, 0, 0, 100, 0};
     /* P2: 2, 3, -2 */
-    static const uint8_t below[] = {18, 0, 1, 0, 1, 2, 0, 1, 2, 0, 3, 0, 0xfe, 0xff, 0, 0, 0, 4};
+    static const uint8_t below[] = {20, 0, 2, 0, 1, 2, 0, 1, 0, 0, 2, 0, 3, 0, 0xfe, 0xff, 0, 0, 0, 4};
     static const uint8_t below_points[] = {14, 0, 1, 0x80, 0, 0, 3, 0, 2, 0, 3, 0, 0xfe, 0xff};
     /* the longest ride: 4096 all along, r = 4, N = 6; and one path point more */
-    static const uint8_t longest[] = {32, 0, 1, 0, 1, 4, 0, 6, 0, 16, 0, 16, 0, 16, 0, 16, 0, 16,
-                                      0, 0, 1, 0, 5, 0, 0xe8, 3, 7, 0, 44, 1, 0, 4};
+    static const uint8_t longest[] = {34, 0, 2, 0, 1, 4, 0, 6, 0, 0, 0, 16, 0, 16, 0, 16, 0, 16, 0, 16, 0, 0, 1, 0, 5,
+                                      0, 0xe8, 3, 7, 0, 44, 1, 0, 4};
     static const uint8_t longest_points[LEAN_REPLY_ROOM] = {
         58, 0, 1, 0x80, 0, 0, 25, 0,  0, 16, 0, 16, 0, 16, 0, 16, 0, 16, 0, 16, 0, 16, 0, 16, 0, 16, 0, 16, 0,
         16, 0, 16, 0, 16, 0, 16, 0,   16, 0, 16, 0, 16, 0, 16, 0, 16, 0, 16, 0, 16, 0, 16, 0, 16, 0, 16, 0, 16};
-    static const uint8_t too_long[] = {34, 0, 1, 0, 1, 4, 0, 7, 0, 16, 0, 16, 0, 16, 0, 16, 0, 16,
-                                       0, 0, 1, 0, 5, 0, 0xe8, 3, 7, 0, 44, 1, 0, 4, 0, 0};
+    static const uint8_t too_long[] = {36, 0, 2, 0, 1, 4, 0, 7, 0, 0, 0, 16, 0, 16, 0, 16, 0, 16, 0, 16, 0, 0, 1, 0,
+                                       5, 0, 0xe8, 3, 7, 0, 44, 1, 0, 4, 0, 0};
     static const uint8_t none[] = {0};
-    static const uint8_t length[] = {15, 0, 1, 0, 1, 1, 0, 1, 0, 0, 100, 0, 0, 0, 0, 4};
+    static const uint8_t length[] = {17, 0, 2, 0, 1, 1, 0, 1, 0, 0, 0, 0, 100, 0, 0, 0, 0, 4};
     static const uint8_t other[] = {16, 0, 1, 1, 1, 1, 0, 1, 0, 0, 100, 0, 0, 0, 0, 4};
     static const uint8_t form[] = {8, 0, 1, 0, 4, 9, 9, 9};
     static const uint8_t degree[] = {8, 0, 1, 0, 2, 2, 3, 0};
-    static const uint8_t body[] = {14, 0, 1, 0, 1, 1, 0, 1, 0, 0, 100, 0, 0, 0};
-    static const uint8_t value[] = {16, 0, 1, 0, 1, 1, 0, 1, 0, 0, 1, 16, 0, 0, 1, 4};
-    static const uint8_t parameter[] = {16, 0, 1, 0, 1, 1, 0, 1, 0, 0, 100, 0, 0, 0, 1, 4};
-    static const uint8_t balance[] = {20, 0, 1, 0, 3, 1, 0, 0, 10, 0, 20, 0, 30, 0, 0, 2, 0, 1, 0xff, 0};
+    static const uint8_t body[] = {16, 0, 2, 0, 1, 1, 0, 1, 0, 0, 0, 0, 100, 0, 0, 0};
+    static const uint8_t value[] = {18, 0, 2, 0, 1, 1, 0, 1, 0, 0, 0, 0, 1, 16, 0, 0, 1, 4};
+    static const uint8_t parameter[] = {18, 0, 2, 0, 1, 1, 0, 1, 0, 0, 0, 0, 100, 0, 0, 0, 1, 4};
+    static const uint8_t balance[] = {22, 0, 2, 0, 3, 1, 0, 0, 0, 0, 10, 0, 20, 0, 30, 0, 0, 2, 0, 1, 0xff, 0};
     /* P1 again with an age of 0 ms, and all that can be wrong with such a record */
     static const uint8_t aged[] = {18, 0, 2, 0, 1, 1, 0, 1, 0, 0, 0, 0, 100, 0, 0, 0, 0, 4};
     static const uint8_t aged_length[] = {17, 0, 2, 0, 1, 1, 0, 1, 0xfb, 0, 0, 0, 100, 0, 0, 0, 0, 4};
@@ -90,10 +90,12 @@ int main(void)
     static const uint8_t aged_parameter[] = {18, 0, 2, 0, 1, 1, 0, 1, 0xfa, 0, 0, 0, 100, 0, 0, 0, 1, 4};
     static const uint8_t stale_balance[] = {22, 0, 2, 0, 3, 1, 0, 0, 0xfb, 0, 10, 0, 20, 0, 30, 0, 0, 2, 0, 1, 0xff, 0};
     static const uint8_t aged_balance[] = {22, 0, 2, 0, 3, 1, 0, 0, 0xfa, 0, 10, 0, 20, 0, 30, 0, 0, 2, 0, 1, 0xff, 0};
-    /* without an age the bytes 8 and 9 are a control value: 251 is no age there, and 4097 is VALUE */
-    static const uint8_t no_age[] = {16, 0, 1, 0, 1, 1, 0, 1, 0xfb, 0, 0xfb, 0, 0, 0, 0, 4};
-    static const uint8_t no_age_points[] = {12, 0, 1, 0x80, 0, 0, 2, 0, 0xfb, 0, 0xfb, 0};
+    /* no age means old, before all that can be wrong with a body; a form, a degree or a length that is wrong comes first */
+    static const uint8_t no_age[] = {16, 0, 1, 0, 1, 1, 0, 1, 0, 0, 100, 0, 0, 0, 0, 4};
+    static const uint8_t no_age_length[] = {15, 0, 1, 0, 1, 1, 0, 1, 0, 0, 100, 0, 0, 0, 0, 4};
+    static const uint8_t no_age_body[] = {14, 0, 1, 0, 1, 1, 0, 1, 0, 0, 100, 0, 0, 0};
     static const uint8_t no_age_value[] = {16, 0, 1, 0, 1, 1, 0, 1, 1, 16, 100, 0, 0, 0, 0, 4};
+    static const uint8_t no_age_balance[] = {20, 0, 1, 0, 3, 1, 0, 0, 10, 0, 20, 0, 30, 0, 0, 2, 0, 1, 0xff, 0};
     static const struct {
         const char *name;
         uint8_t low;
@@ -162,8 +164,12 @@ int main(void)
     bad += refused("1025 at index 1 at age 250", aged_parameter, sizeof aged_parameter, LEAN_PARAMETER, 1);
     bad += refused("stale, and 512, 256, 255", stale_balance, sizeof stale_balance, LEAN_STALE, 0);
     bad += refused("512, 256, 255 at age 250", aged_balance, sizeof aged_balance, LEAN_BALANCE, 0);
-    bad += check("no age, 251 at index 0", no_age, sizeof no_age, ROOM, no_age_points, sizeof no_age_points);
-    bad += refused("no age, 4097 at index 0", no_age_value, sizeof no_age_value, LEAN_VALUE, 0);
+    bad += refused("no age", no_age, sizeof no_age, LEAN_STALE, 0);
+    bad += check("57 bytes are too few without an age", no_age, sizeof no_age, LEAN_REPLY_ROOM - 1, points, 0);
+    bad += refused("no age, another length", no_age_length, sizeof no_age_length, LEAN_FRAME, 0);
+    bad += refused("no age, a short body", no_age_body, sizeof no_age_body, LEAN_STALE, 0);
+    bad += refused("no age, 4097 at index 0", no_age_value, sizeof no_age_value, LEAN_STALE, 0);
+    bad += refused("no age, and 512, 256, 255", no_age_balance, sizeof no_age_balance, LEAN_STALE, 0);
 
     printf("%d cases, %d wrong\n", cases + bad, bad);
     return bad != 0;

@@ -15,7 +15,7 @@
  *               then path numbers in 1/1024, signed, 0 to 1024: 1, 2 or 3 times N+1 of them
  *
  * A request that carries no age, LEAN_REQUEST: the same with kind 0x0001 and without the two bytes of the age, so that its
- * control values begin at byte 8. For now it counts as age 0.
+ * control values begin at byte 8. No age means old: it is refused as LEAN_STALE.
  *
  * A reply to either, LEAN_REPLY:
  *
@@ -73,7 +73,7 @@ enum {
                            after STALE, a body that is not exactly as long as the degrees say */
     LEAN_KIND = 1,      /* form is not 1, 2 or 3 */
     LEAN_DEGREE = 2,    /* r above 4, N above 6, or a second degree in forms 1 and 3 */
-    LEAN_STALE = 10,    /* the tilt sample is older than 250 ms */
+    LEAN_STALE = 10,    /* the tilt sample is older than 250 ms, or the request carries no age */
     LEAN_VALUE = 6,     /* a control value beyond its bounds */
     LEAN_PARAMETER = 7, /* a path number beyond its bounds */
     LEAN_BALANCE = 8    /* form 3: x+y+z of a point is not 1024 */

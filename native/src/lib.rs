@@ -1,4 +1,4 @@
-//! The proved composer, door, replay, salvage, reading at a tick, card and patches, as Rust calls them: none has a condition on its arguments, and slices
+//! The proved composer, door, replay, converter, salvage, reading at a tick, card and patches, as Rust calls them: none has a condition on its arguments, and slices
 //! of which one is exclusive never overlap, so all are safe. Each program links only the archive that it uses, so each is
 //! compiled where it is called.
 
@@ -39,6 +39,15 @@ extern "C" {
         part: *const u8,
         part_length: usize,
     );
+    fn lean_convert(
+        held: *mut [u8; 256],
+        words: *mut [u64; 5],
+        part: *const u8,
+        part_length: usize,
+        out: *mut u8,
+        out_length: usize,
+    );
+    fn lean_convert_end(held: *const [u8; 256], words: *const [u64; 5], out: *mut u8, out_length: usize) -> usize;
     fn lean_salvage(
         window: *const u8,
         window_length: usize,
@@ -166,6 +175,47 @@ impl Day {
             refusals: self.refusals,
             span: (self.counts[2] != 0).then_some((least, most)),
         }
+    }
+}
+
+/// The converter of old traces; zeros have taken nothing.
+#[derive(Clone, Debug, PartialEq, Eq)]
+pub struct Old {
+    held: [u8; 256],
+    words: [u64; 5],
+}
+
+impl Default for Old {
+    fn default() -> Self {
+        Old { held: [0; 256], words: [0; 5] }
+    }
+}
+
+impl Old {
+    /// The most bytes of a part that are taken at once, and the room for what they put out.
+    pub const PART: usize = 65536;
+    pub const ROOM: usize = 74016;
+    /// The room for what is still kept at the end.
+    pub const LAST: usize = 256;
+
+    /// Takes the next part; tells how many of its bytes, and how many were put to the front of `out`.
+    #[inline]
+    pub fn take(&mut self, part: &[u8], out: &mut [u8]) -> (usize, usize) {
+        let Old { held, words } = self;
+        unsafe { lean_convert(held, words, part.as_ptr(), part.len(), out.as_mut_ptr(), out.len()) }
+        (words[2] as usize, words[3] as usize)
+    }
+
+    /// Puts what is still kept at the end to the front of `out`; tells how many bytes.
+    #[inline]
+    pub fn end(&self, out: &mut [u8]) -> usize {
+        unsafe { lean_convert_end(&self.held, &self.words, out.as_mut_ptr(), out.len()) }
+    }
+
+    /// How many requests were changed; none where the trace cannot be converted.
+    pub fn changed(&self) -> Option<u64> {
+        let [_, changed, _, _, refused] = self.words;
+        (refused == 0).then_some(changed)
     }
 }
 

@@ -7,6 +7,7 @@ use crate::edition::{Edition, LONG};
 use crate::entries;
 use crate::long;
 use crate::patch::patch;
+use crate::replay::{replay_of, Five};
 use crate::salvage::{salvage, Salvaged};
 use crate::sample::cards::Cards;
 use crate::sample::longs::Longs;
@@ -143,17 +144,19 @@ pub fn cards(
     )
 }
 
-/// Conversions of old traces.
+/// Conversions of old traces: the trace that is made and how many requests
+/// were changed, and the five numbers, here of the old trace by the old rule,
+/// there of the made one by the new.
 pub fn converts(
     seed: u64,
     count: u64,
-    mut other: impl FnMut(&[u8]) -> Option<Converted>,
+    mut other: impl FnMut(&[u8]) -> Option<(Converted, Five)>,
 ) -> Result<Tally, String> {
-    let mut draws = Torn::new(seed);
+    let mut draws = Torn::of(&LONG, seed);
     compared(
         count,
         || draws.old(),
-        |trace| convert(trace),
+        |trace| convert(trace).map(|converted| (converted, replay_of(&LONG, trace))),
         |trace| other(trace),
     )
 }

@@ -36,7 +36,7 @@ pub const AGED: Edition = Edition {
 };
 
 /// What holds today.
-pub const TODAY: Edition = LONG;
+pub const TODAY: Edition = AGED;
 
 impl Edition {
     /// The most points of an answer.

@@ -4,9 +4,6 @@ use crate::door::door_of;
 use crate::edition::{Edition, TODAY};
 use crate::record::HEAD;
 
-/// The least and the largest length of a recorded record.
-pub const LENGTHS: [usize; 2] = [HEAD, TODAY.longest];
-
 /// What a replay counts: calls, same, differ, first and rest.
 pub type Five = (u64, u64, u64, u64, u64);
 

@@ -3,9 +3,10 @@
 
 use second::agree::*;
 use second::card::{card, Part};
-use second::convert::convert;
+use second::convert::{convert, Converted};
 use second::edition::{Edition, AGED, LONG, SHORT};
 use second::patch::patch;
+use second::replay::{replay, replay_of};
 use second::rounding::nearest;
 use second::salvage::{salvage, Salvaged};
 use second::sheet::{sheet, Feed, Sheet};
@@ -177,18 +178,35 @@ fn cards_of_every_kind() {
 
 #[test]
 fn conversions() {
-    good(converts(1, 8000, convert), 40);
+    let replayed = |converted: Converted| {
+        let five = replay(&converted.bytes);
+        (converted, five)
+    };
+    good(
+        converts(1, 8000, |trace| convert(trace).map(replayed)),
+        40,
+    );
     // A trace that ends at 127 or 128 is converted.
     bad(converts(1, 8000, |trace| {
-        convert(trace).or_else(|| convert(&trace[..0]))
+        let converted = convert(trace).or_else(|| convert(&trace[..0]));
+        converted.map(replayed)
     }));
-    // A pair more, or the reply changed.
+    // Age 1 in place of 0.
     bad(converts(1, 8000, |trace| {
         let mut converted = convert(trace)?;
         if converted.changed == 3 {
             converted.bytes[8] = 1;
         }
-        Some(converted)
+        Some(replayed(converted))
+    }));
+    // The old trace by the new rule, and the new one by the old.
+    bad(converts(1, 8000, |trace| {
+        Some((convert(trace)?, replay(trace)))
+    }));
+    bad(converts(1, 8000, |trace| {
+        let converted = convert(trace)?;
+        let five = replay_of(&LONG, &converted.bytes);
+        Some((converted, five))
     }));
 }
 

@@ -2,7 +2,7 @@
 
 use second::convert::{convert, line};
 use second::door::door_of;
-use second::edition::{Edition, AGED, LONG, SHORT, TODAY};
+use second::edition::{Edition, AGED, LONG, SHORT};
 use second::record::settle;
 use second::replay::{lines, replay_of};
 use second::sample::traces::{Recorder, Traces};
@@ -188,8 +188,7 @@ fn check(trace: &[u8]) -> bool {
 
 #[test]
 fn the_five_lines_stay() {
-    assert_eq!(TODAY.longest, LONG.longest, "the recorder's traces are old");
-    let mut traces = Traces::new(101);
+    let mut traces = Traces::of(&LONG, 101);
     let converted = (0..8000).filter(|_| check(&traces.draw().bytes)).count();
     assert!(converted > 7000 && converted < 8000);
 }
@@ -198,7 +197,7 @@ fn the_five_lines_stay() {
 #[test]
 fn the_five_lines_stay_at_the_bounds() {
     let mut rng = Xorshift::new(102);
-    let mut recorder = Recorder::new(103);
+    let mut recorder = Recorder::of(&LONG, 103);
     let mut refused = 0;
     for _ in 0..6000 {
         let mut trace = Vec::new();

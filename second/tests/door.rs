@@ -1,8 +1,31 @@
 //! The door: the rides to reckon by hand as bytes, each refusal on both
-//! sides of its condition, the order, and the room.
+//! sides of its condition, the order, and the room. Requests without an age
+//! are asked by the rule of before ticket 10; today's is asked beside it.
 
-use second::door::{door, ROOM};
-use second::edition::TODAY;
+use second::door::{door as door_today, door_of, ROOM};
+use second::edition::{LONG, TODAY};
+
+/// The door of before ticket 10. Today's tells the same, unless a request
+/// carries no age: then it tells STALE, or what comes before.
+fn door(request: &[u8], reply: &mut [u8]) -> usize {
+    let mut today = reply.to_vec();
+    let count = door_of(&LONG, request, reply);
+    let told = door_today(request, &mut today);
+    let ageless = request.len() >= 8 && request[2..4] == [1, 0];
+    if !ageless || count == 0 {
+        assert_eq!((told, &today[..]), (count, &reply[..]));
+        return count;
+    }
+    let framed = usize::from(u16::from_le_bytes([request[0], request[1]])) == request.len();
+    let number = match reply[4] {
+        9 if !framed => 9,
+        1 => 1,
+        2 => 2,
+        _ => 10,
+    };
+    assert_eq!(today[..told], refused(number, 0));
+    count
+}
 
 /// A request record; its length is true.
 fn record(four: [u8; 4], surface: &[i16], path: &[i16]) -> Vec<u8> {

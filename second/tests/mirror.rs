@@ -100,7 +100,7 @@ fn the_door_mirrors() {
         let asked = read(&sample.line).unwrap();
         let [(one, count), (two, same)] = [&asked, &asked.mirrored()].map(|asked| {
             let mut reply = [0; ROOM];
-            let count = door(&record::request(asked), &mut reply);
+            let count = door(&record::aged(asked), &mut reply);
             (reply, count)
         });
         assert_eq!(same, count);

@@ -8,7 +8,7 @@ use second::sample::traces::{Recorder, Traces};
 use std::collections::BTreeMap;
 
 /// P1 and its reply.
-const P1: [u8; 16] = [16, 0, 1, 0, 1, 1, 0, 1, 0, 0, 100, 0, 0, 0, 0, 4];
+const P1: [u8; 18] = [18, 0, 2, 0, 1, 1, 0, 1, 0, 0, 0, 0, 100, 0, 0, 0, 0, 4];
 const TOLD: [u8; 12] = [12, 0, 1, 0x80, 0, 0, 2, 0, 0, 0, 100, 0];
 
 /// A refused request and its reply: form 0 is KIND.
@@ -62,14 +62,14 @@ fn a_reply_of_another_length_differs() {
     longer[0] = 14;
     let mut shorter = TOLD[..10].to_vec();
     shorter[0] = 10;
-    for reply in [longer, shorter, record(8), record(126)] {
+    for reply in [longer, shorter, record(8), record(128)] {
         let trace = [&P1[..], &reply, &P1, &TOLD].concat();
         assert_eq!(replay(&trace), (2, 1, 1, 1, 0));
     }
 }
 
 #[test]
-fn lengths_8_and_126_are_read_and_7_and_127_are_not() {
+fn lengths_8_and_128_are_read_and_7_and_129_are_not() {
     for length in 0..=255 {
         let good = [&P1[..], &TOLD].concat();
         let after = [&P1[..], &TOLD].concat();
@@ -78,7 +78,7 @@ fn lengths_8_and_126_are_read_and_7_and_127_are_not() {
         // As a request with its reply.
         let pair = [&odd[..], &told(&odd)].concat();
         let trace = [&good[..], &pair, &after].concat();
-        if (8..=126).contains(&length) {
+        if (8..=128).contains(&length) {
             assert_eq!(replay(&trace), (3, 3, 0, 0, 0));
         } else {
             let rest = (pair.len() + after.len()) as u64;
@@ -87,7 +87,7 @@ fn lengths_8_and_126_are_read_and_7_and_127_are_not() {
         // As a reply.
         let pair = [&P1[..], &odd].concat();
         let trace = [&good[..], &pair, &after].concat();
-        if (8..=126).contains(&length) {
+        if (8..=128).contains(&length) {
             assert_eq!(replay(&trace), (3, 2, 1, 2, 0));
         } else {
             let rest = (pair.len() + after.len()) as u64;
@@ -105,7 +105,7 @@ fn lengths_beyond_a_byte_are_not_read() {
         trace.resize(70_000, 0);
         assert_eq!(replay(&trace), (0, 0, 0, 0, 70_000));
         let mut trace = [&P1[..], &TOLD].concat();
-        trace[17] = high;
+        trace[19] = high;
         trace.resize(70_000, 0);
         assert_eq!(replay(&trace), (0, 0, 0, 0, 70_000));
     }
@@ -116,9 +116,9 @@ fn cut_anywhere() {
     let pairs = [&P1[..], &TOLD, &NONE, &KIND, &P1, &KIND].concat();
     for count in 0..=pairs.len() {
         let five = match count {
-            0..28 => (0, 0, 0, 0, count),
-            28..44 => (1, 1, 0, 0, count - 28),
-            44..68 => (2, 2, 0, 0, count - 44),
+            0..30 => (0, 0, 0, 0, count),
+            30..46 => (1, 1, 0, 0, count - 30),
+            46..72 => (2, 2, 0, 0, count - 46),
             _ => (3, 2, 1, 3, 0),
         };
         let (calls, same, differ, first, rest) = five;
@@ -131,8 +131,8 @@ fn cut_anywhere() {
 /// judged by the door.
 #[test]
 fn requests_of_every_kind() {
-    let mut aged = vec![18, 0, 2, 0, 1, 1, 0, 1, 250, 0];
-    aged.extend(&P1[8..]);
+    let mut aged = P1;
+    aged[8] = 250;
     let good = [&aged[..], &TOLD].concat();
     assert_eq!(replay(&good), (1, 1, 0, 0, 0));
     aged[8] = 251;
@@ -184,12 +184,12 @@ fn traces_are_what_they_say() {
         *kinds.entry(trace.kind).or_default() += 1;
     }
     assert!(kinds.values().all(|&times| times > 10), "{kinds:?}");
-    for length in [7, 8, 126, 127] {
+    for length in [7, 8, 128, 129] {
         for what in ["request", "reply"] {
             assert!(kinds.contains_key(&format!("{what} of {length} bytes")));
         }
     }
-    assert_eq!(kinds.len(), 36);
+    assert_eq!(kinds.len(), 40);
 }
 
 /// The cuts go through every place of a trace, from none to all its bytes.
@@ -269,22 +269,22 @@ fn rest(trace: &[u8], at: usize) -> u64 {
 
 #[test]
 fn wrong_replays_are_found() {
-    let right = |trace: &[u8]| replay_as(trace, 8, 126, usize::MAX).0;
+    let right = |trace: &[u8]| replay_as(trace, 8, 128, usize::MAX).0;
     assert!(replays(3, 4000, right).is_ok());
     let wrong = |other: &dyn Fn(&[u8]) -> Five| {
         let difference = replays(3, 4000, other).unwrap_err();
         assert!(difference.to_string().contains("other replay: calls"));
     };
     // Other bounds of a record's length.
-    wrong(&|trace| replay_as(trace, 7, 126, usize::MAX).0);
-    wrong(&|trace| replay_as(trace, 9, 126, usize::MAX).0);
-    wrong(&|trace| replay_as(trace, 8, 125, usize::MAX).0);
+    wrong(&|trace| replay_as(trace, 7, 128, usize::MAX).0);
+    wrong(&|trace| replay_as(trace, 9, 128, usize::MAX).0);
     wrong(&|trace| replay_as(trace, 8, 127, usize::MAX).0);
+    wrong(&|trace| replay_as(trace, 8, 129, usize::MAX).0);
     // Only the head of a reply is compared.
-    wrong(&|trace| replay_as(trace, 8, 126, 8).0);
+    wrong(&|trace| replay_as(trace, 8, 128, 8).0);
     // The rest is counted from the record that ends the reading.
     wrong(&|trace| {
-        let ((calls, same, differ, first, _), at) = replay_as(trace, 8, 126, usize::MAX);
+        let ((calls, same, differ, first, _), at) = replay_as(trace, 8, 128, usize::MAX);
         (calls, same, differ, first, rest(trace, at))
     });
     // The first is counted from 0, or is the last.

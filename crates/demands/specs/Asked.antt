@@ -19,8 +19,9 @@ use Rattle.compose.specs.Afterwards.{listBelow}
 use Rattle.compose.proofs.Written.{below-at, below-length}
 use Rattle.wire.specs.Words.{wordEnd, wordBytes, wordAt, numberBytes, numberAt}
 use Rattle.wire.specs.Start.{start, lengthField, kindField, recordStart, recordOf}
-use Rattle.judgement.specs.Record.{agedStart, headIn, isAged, startIn, ageIn, pathStart, bodyEnd, requestIn, headBytes, kindOf, ageBytes, requestRecord}
-use Rattle.judgement.specs.Judgement.{mostRooms, notOfKind, notFrame, notBody, doorRefusals, composed, judged}
+use Rattle.judgement.specs.Record.{agedStart, headIn, isAged, startIn, pathStart, bodyEnd, requestIn}
+use Rattle.judgement.specs.Record.{today, missingAge, ageBy, ageIn, headBytes, kindOf, ageBytes, requestRecord}
+use Rattle.judgement.specs.Judgement.{mostRooms, notOfKind, notFrame, notBody, refusalsBy, doorRefusals, composed, judgedBy, judged}
 use Rattle.replies.specs.Parts.{AllShort}
 use Rattle.wire.proofs.Words.{numbers-length, number-read}
 
@@ -38,13 +39,13 @@ at-least : (b : Bool) → start ≤ cond b agedStart start
 at-least true = omega arith
 at-least false = omega arith
 
--- an age, where there is one, fits two bytes; and where there is none it counts as 0
+-- an age, where there is one, fits two bytes; and where there is none it counts as the oldest
 abbrev pub Fits : Option ℕ → Type 0
 Fits none = Unit {0}
 Fits (some age) = age < wordEnd
 
 abbrev pub milliseconds : Option ℕ → ℕ
-milliseconds none = 0
+milliseconds none = missingAge today
 milliseconds (some age) = age
 
 -- the bytes before the control values
@@ -73,7 +74,7 @@ module _ (rq : Request) where
   starts (some age) = rw (kind-is (some age))
 
   age-is : (age : Option ℕ) → Fits age → ageIn (requestRecord rq age) ≡ milliseconds age
-  unfolding ageIn isAged kindOf wordAt requestRecord recordOf recordStart wordBytes headBytes ageBytes
+  unfolding ageBy isAged kindOf wordAt requestRecord recordOf recordStart wordBytes headBytes ageBytes
   age-is none m = rw (kind-is none)
   age-is (some age) m = rw (kind-is (some age)) (omega arith)
 
@@ -140,7 +141,7 @@ module _ (rq : Request) (age : Option ℕ) (ok : Askable rq) where
   -- behind KIND and DEGREE the door and the composer look at the age alike
   door : judged (requestRecord rq age)
       ≡ decided (first (drop 3 (doorRefusals (requestRecord rq age)))) (composed (requestRecord rq age))
-  unfolding judged doorRefusals
+  unfolding judgedBy refusalsBy
   door =
       let kind : notKind (headIn (requestRecord rq age)) ≡ false = rw (head-is rq age) (ok .kind) in
       let degrees : notDegree (headIn (requestRecord rq age)) ≡ false = rw (head-is rq age) (ok .degrees) in
@@ -152,7 +153,7 @@ module _ (rq : Request) (age : Option ℕ) (ok : Askable rq) where
   composer = past _ _ _ (ok .kind) ∙ past _ _ _ (ok .degrees)
 
   by-age : Fits age → (b : Bool) → stale (milliseconds age) ≡ b → judged (requestRecord rq age) ≡ answer rq (milliseconds age) mostRooms
-  unfolding doorRefusals refusals
+  unfolding refusalsBy refusals
   by-age m true o = door ∙ here _ _ _ (ap stale (age-is rq age m) ∙ o) ∙ sym (composer ∙ here _ _ _ o)
   by-age m false o =
       door ∙ past _ _ _ (ap stale (age-is rq age m) ∙ o) ∙ past _ _ _ body-fits ∙ end _ ∙ rw (read-again, age-is rq age m)

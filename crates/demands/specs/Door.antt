@@ -25,7 +25,7 @@ use Rattle.wire.specs.Start.{start, lengthField, kindField, recordStart, record
 use Rattle.replies.specs.Reply.{replyKind, answerBytes, replyRecord, room, over}
 use Rattle.judgement.specs.Record.{headIn, ageIn, requestIn}
 use Rattle.judgement.specs.Judgement.{mostRooms, judged}
-use Rattle.door.specs.Contract.{pointsOf, replyOf, Answered}
+use Rattle.door.specs.Contract.{pointsOf, replyBy, replyOf, Answered}
 use Rattle.wire.proofs.Words.{number-read}
 use Rattle.replies.proofs.Over.{over-length}
 use Rattle.replies.proofs.Replies.{reply-length}
@@ -56,7 +56,7 @@ pub record Reply (request : List ℕ) (n : ℕ) (reply : List ℕ) : Type 0 wher
   pub points : (R : ℕ) → R < judged request .count → numberAt reply start R ≡ point (requestIn request) R
 
 reply-size : (request : List ℕ) → length (replyOf request) ≡ start + 2 * judged request .count
-unfolding replyOf
+unfolding replyBy
 reply-size request = rw (reply-length, points-length)
 
 module _ (a : Answer) (points : List ℤ) (rest : List ℕ) where
@@ -95,7 +95,7 @@ pub record Replied (request reply : List ℕ) (n : ℕ) (reply′ : List ℕ) : 
   pub beyond : drop n reply′ ≡ drop n reply
 
 front : (request reply : List ℕ) → room ≤ length reply → Replied request reply (length (replyOf request)) (over (replyOf request) reply)
-unfolding replyOf over
+unfolding replyBy over
 front request reply m =
     let n = reply-size request in
     let few = judged-fits request .few in

@@ -13,7 +13,7 @@ use Rattle.compose.specs.Afterwards.{listBelow}
 use Rattle.replies.specs.Reply.{replyRecord}
 use Rattle.judgement.specs.Record.{requestRecord}
 use Rattle.judgement.specs.Judgement.{mostRooms, judged}
-use Rattle.door.specs.Contract.{pointsOf, replyOf}
+use Rattle.door.specs.Contract.{pointsBy, pointsOf, replyBy, replyOf}
 use Rattle.demands.specs.Asked.{Fits, milliseconds, Askable, read-again, answered-alike}
 
 negated : (n : ℕ) (f g : ℕ → ℤ) → ((k : ℕ) → g k ≡ negℤ (f k)) → listBelow n g ≡ map negℤ (listBelow n f)
@@ -28,11 +28,11 @@ module _ (rq : Request) (age : Option ℕ) (fits : Fits age) (ok : Askable rq) (
       (answer-mirrored rq (milliseconds age) mostRooms)
 
   pub points-mirrored : pointsOf (requestRecord (mirrored rq) age) ≡ map negℤ (pointsOf (requestRecord rq age))
-  unfolding pointsOf
+  unfolding pointsBy
   points-mirrored =
       rw (judged-mirrored, read-again (mirrored rq) age ok′, read-again rq age ok)
       (negated _ (point rq) (point (mirrored rq)) (point-mirrored rq))
 
   pub reply-mirrored : replyOf (requestRecord (mirrored rq) age) ≡ replyRecord (judged (requestRecord rq age)) (map negℤ (pointsOf (requestRecord rq age)))
-  unfolding replyOf
+  unfolding replyBy
   reply-mirrored = rw (judged-mirrored, points-mirrored)

@@ -27,7 +27,7 @@ use Rattle.judgement.specs.Record.{headIn, ageIn, requestIn}
 use Rattle.judgement.specs.Judgement.{mostRooms, composed, judged}
 use Rattle.judgement.proofs.Sizes.{surface-most, path-most}
 use Rattle.judgement.proofs.Order.{Passed, judged-is}
-use Rattle.door.specs.Contract.{pointsOf}
+use Rattle.door.specs.Contract.{pointsBy, pointsOf}
 use Rattle.door.specs.Given.{Given}
 use Rattle.door.proofs.Composing.{first-places}
 
@@ -119,11 +119,11 @@ short (pos n) m = omega arith
 short (negsuc n) m = omega arith
 
 pub points-at : (request : List ℕ) (R : ℕ) → R < judged request .count → getD (pointsOf request) R (pos 0) ≡ point (requestIn request) R
-unfolding pointsOf
+unfolding pointsBy
 points-at request R m = rw append-nil at (below-at (judged request .count) (point (requestIn request)) [] R (pos 0) m)
 
 pub points-length : (request : List ℕ) → length (pointsOf request) ≡ judged request .count
-unfolding pointsOf
+unfolding pointsBy
 points-length request = below-length _ _
 
 pub sendable : (request : List ℕ) → Sendable (judged request) (pointsOf request)
@@ -140,5 +140,5 @@ sendable request = record {
 -- what is sent of the places that the composer was lent
 pub points-sent : (request : List ℕ) (points : List ℤ) (a : Answer) (points′ : List ℤ) → Given request (judged request) points a points′
     → take (a .count) points′ ≡ pointsOf request
-unfolding pointsOf
+unfolding pointsBy
 points-sent request points a points′ g = rw (g .points-is, g .answered) (first-places _ _ points)

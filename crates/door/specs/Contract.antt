@@ -10,16 +10,22 @@ use lib.ListN.{length}
 use Rattle.net.specs.Composed.{point}
 use Rattle.compose.specs.Afterwards.{listBelow}
 use Rattle.replies.specs.Reply.{replyRecord, room, over}
-use Rattle.judgement.specs.Record.{requestIn}
-use Rattle.judgement.specs.Judgement.{judged}
+use Rattle.judgement.specs.Record.{Reading, today, requestIn}
+use Rattle.judgement.specs.Judgement.{judgedBy}
 
 -- the points of the reply, as many as the answer's count
-unfoldable pub pointsOf : List ℕ → List ℤ
-pointsOf request = listBelow (judged request .count) (point (requestIn request))
+unfoldable pub pointsBy : Reading → List ℕ → List ℤ
+pointsBy reading request = listBelow (judgedBy reading request .count) (point (requestIn request))
 
--- the reply to a request
-unfoldable pub replyOf : List ℕ → List ℕ
-replyOf request = replyRecord (judged request) (pointsOf request)
+abbrev pub pointsOf : List ℕ → List ℤ
+pointsOf = pointsBy today
+
+-- the reply to a request by either reading, and today's
+unfoldable pub replyBy : Reading → List ℕ → List ℕ
+replyBy reading request = replyRecord (judgedBy reading request) (pointsBy reading request)
+
+abbrev pub replyOf : List ℕ → List ℕ
+replyOf = replyBy today
 
 -- "Under [58] bytes of reply room nothing is written and 0 is answered; otherwise the reply's byte count is answered"
 unfoldable pub countAnswered : List ℕ → List ℕ → ℕ

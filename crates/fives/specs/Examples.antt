@@ -55,11 +55,11 @@ nights =
     }
     ∷ record { trace = sized 8 0; calls = 0; same = 0; differ = 0; first = 0; rest = 8 }
     ∷ record { trace = 8 ∷ []; calls = 0; same = 0; differ = 0; first = 0; rest = 1 }
-    -- the lengths 8 and 126 are taken, 7 and 127 end the reading, and nothing after that is read
-    ∷ record { trace = sized 8 0 ++ sized 126 0; calls = 1; same = 0; differ = 1; first = 1; rest = 0 }
-    ∷ record { trace = sized 126 0 ++ sized 126 0; calls = 1; same = 1; differ = 0; first = 0; rest = 0 }
+    -- the lengths 8 and 128 are taken, 7 and 129 end the reading, and nothing after that is read
+    ∷ record { trace = sized 8 0 ++ sized 128 0; calls = 1; same = 0; differ = 1; first = 1; rest = 0 }
+    ∷ record { trace = sized 128 0 ++ sized 128 0; calls = 1; same = 1; differ = 0; first = 0; rest = 0 }
     ∷ record { trace = sized 7 0 ++ sized 8 0 ++ sized 8 0; calls = 0; same = 0; differ = 0; first = 0; rest = 23 }
-    ∷ record { trace = sized 8 0 ++ sized 127 0 ++ sized 8 0; calls = 0; same = 0; differ = 0; first = 0; rest = 143 }
+    ∷ record { trace = sized 8 0 ++ sized 129 0 ++ sized 8 0; calls = 0; same = 0; differ = 0; first = 0; rest = 145 }
     -- the length is little-endian: 2048
     ∷ record { trace = 0 ∷ 8 ∷ replicate 30 0; calls = 0; same = 0; differ = 0; first = 0; rest = 32 }
     ∷ []

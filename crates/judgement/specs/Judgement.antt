@@ -12,7 +12,7 @@ use Rattle.request.specs.Head.{mostPoints}
 use Rattle.request.specs.Cascade.{Test, test, first, refused, decided}
 use Rattle.request.specs.Refusal.{notKind, notDegree, answer}
 use Rattle.wire.specs.Start.{lengthField, kindField, start}
-use Rattle.judgement.specs.Record.{requestKind, agedStart, headIn, isAged, startIn, ageIn, bodyEnd, requestIn}
+use Rattle.judgement.specs.Record.{requestKind, agedStart, headIn, isAged, startIn, Reading, today, ageBy, bodyEnd, requestIn}
 
 -- "another kind"; and "kind 0x0002 [..] under 10 bytes is FRAME"
 unfoldable pub notOfKind : List ℕ → Bool
@@ -26,16 +26,19 @@ notFrame bytes = ltb (length bytes) start || not (eqb (lengthField bytes) (lengt
 unfoldable pub notBody : List ℕ → Bool
 notBody bytes = not (eqb (length bytes) (bodyEnd (startIn bytes) (headIn bytes)))
 
--- the door's own table, each at "place 0": FRAME "comes first; KIND and DEGREE follow; a body not exactly as long [..] is
--- FRAME again"; STALE "stands right after DEGREE"
-unfoldable pub doorRefusals : List ℕ → List Test
-doorRefusals bytes =
+-- the door's own table by either reading, each at "place 0": FRAME "comes first; KIND and DEGREE follow; a body not exactly as
+-- long [..] is FRAME again"; STALE "stands right after DEGREE"
+unfoldable pub refusalsBy : Reading → List ℕ → List Test
+refusalsBy reading bytes =
     test 9 (notFrame bytes) 0
     ∷ test 1 (notKind (headIn bytes)) 0
     ∷ test 2 (notDegree (headIn bytes)) 0
-    ∷ test 10 (stale (ageIn bytes)) 0
+    ∷ test 10 (stale (ageBy reading bytes)) 0
     ∷ test 9 (notBody bytes) 0
     ∷ []
+
+abbrev pub doorRefusals : List ℕ → List Test
+doorRefusals = refusalsBy today
 
 -- by that table alone: number 0 where none of its tests holds
 unfoldable pub tested : List ℕ → Answer
@@ -46,9 +49,15 @@ abbrev pub mostRooms : Rooms
 mostRooms = record { high = mostPoints; low = mostPoints; points = mostPoints }
 
 -- the composer's answer to the request in a record
+abbrev pub composedBy : Reading → List ℕ → Answer
+composedBy reading bytes = answer (requestIn bytes) (ageBy reading bytes) mostRooms
+
 abbrev pub composed : List ℕ → Answer
-composed bytes = answer (requestIn bytes) (ageIn bytes) mostRooms
+composed = composedBy today
 
 -- what is answered to a record: by the door's table, and then by the composer
-unfoldable pub judged : List ℕ → Answer
-judged bytes = decided (first (doorRefusals bytes)) (composed bytes)
+unfoldable pub judgedBy : Reading → List ℕ → Answer
+judgedBy reading bytes = decided (first (refusalsBy reading bytes)) (composedBy reading bytes)
+
+abbrev pub judged : List ℕ → Answer
+judged = judgedBy today

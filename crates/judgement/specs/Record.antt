@@ -1,4 +1,4 @@
--- The request records of tickets 1 and 3: what stands where behind the length and the kind with which a record starts
+-- The request records of tickets 1, 3 and 10: what stands where behind the length and the kind with which a record starts
 -- (Rattle.wire.specs.Start). Assumes nothing.
 use mathlib.Core.Bool.{Bool, cond}
 use mathlib.Core.List.{List, [], _∷_, _++_}
@@ -28,15 +28,29 @@ agedStart = 10
 unfoldable pub headIn : List ℕ → Head
 headIn bytes = record { form = getD bytes 4 0; first = getD bytes 5 0; second = getD bytes 6 0; N = getD bytes 7 0 }
 
--- whether a request carries an age, where its numbers begin, and the age: "kind 0x0001 counts as age 0 for now"
+-- whether a request carries an age, and where its numbers begin
 unfoldable pub isAged : List ℕ → Bool
 isAged bytes = eqb (kindField bytes) agedKind
 
 unfoldable pub startIn : List ℕ → ℕ
 startIn bytes = cond (isAged bytes) agedStart start
 
-unfoldable pub ageIn : List ℕ → ℕ
-ageIn bytes = cond (isAged bytes) (wordAt bytes start) 0
+-- the reading by which a request without an age was judged, "kind 0x0001 counts as age 0 for now" (ticket 3), and today's, "from now
+-- on such a request is STALE" (ticket 10): the converter's promise speaks of both. A missing age counts as none, or as the oldest
+pub data Reading : Type 0 where
+  former : Reading
+  today : Reading
+
+unfoldable pub missingAge : Reading → ℕ
+missingAge former = 0
+missingAge today = 65535
+
+-- the age of a request's tilt sample, by either; and by today's
+unfoldable pub ageBy : Reading → List ℕ → ℕ
+ageBy reading bytes = cond (isAged bytes) (wordAt bytes start) (missingAge reading)
+
+abbrev pub ageIn : List ℕ → ℕ
+ageIn = ageBy today
 
 -- where the path numbers begin, and where the record ends that is "exactly as long as the degrees say", of a record whose
 -- numbers begin at a byte

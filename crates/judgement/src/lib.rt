@@ -72,14 +72,14 @@ fn start_in(request: &[u8]) -> usize
     if is_aged(request) { AGED_START } else { START }
 }
 
-// The age of a request's tilt sample, or 0 where it carries none.
+// The age of a request's tilt sample; no age means old.
 fn age_in(request: &[u8]) -> Age
     ensures { λ r. ⌜ r .0 ≡ ageIn (now (request .entry)) ⌝ }
 {
     if is_aged(request) {
         return Age(wire::word_at(request, START) as u16);
     }
-    Age(0)
+    Age(u16::MAX)
 }
 
 // How long the head says that a record is whose numbers begin at byte `from`.

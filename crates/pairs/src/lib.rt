@@ -6,7 +6,7 @@ ghost use Rattle.wire.specs.Start.{lengthField, startsRecord, recordIn, behind 
 ghost use Rattle.pairs.specs.Cut.{pairSize};
 
 // The greatest length of a record.
-pub const LONGEST: usize = 126;
+pub const LONGEST: usize = 128;
 
 fn length_field(bytes: &[u8]) -> usize
     ensures { λ r. ⌜ (r ≡ lengthField (now (bytes .entry))) × (r < 65536) ⌝ }
@@ -37,7 +37,7 @@ pub fn behind(bytes: &[u8]) -> &[u8]
 }
 
 // A whole record starts here.
-fn starts_record(most: usize, bytes: &[u8]) -> bool
+pub fn starts_record(most: usize, bytes: &[u8]) -> bool
     ensures { λ r. ⌜ r ≡ startsRecord most (now (bytes .entry)) ⌝ }
 {
     let n = length_field(bytes);

@@ -10,6 +10,7 @@ use crate::refusal::Refusal;
 use crate::request::MOST_AGE;
 use crate::shape::{Form, Shape};
 use crate::xorshift::Xorshift;
+use crate::Request;
 
 /// One request record and the room lent for its reply.
 #[derive(Clone, Debug)]
@@ -131,6 +132,11 @@ impl Records {
             Kind::Several => self.several(),
             Kind::Vast => self.vast(turn),
             Kind::Endless => self.endless(turn),
+        };
+        let expect = if is_ageless(&bytes) {
+            Some(Refusal::Stale.number())
+        } else {
+            expect
         };
         let room = self.room(&bytes);
         Record {
@@ -447,6 +453,25 @@ impl Records {
         put(&mut bytes, 0, count as u16);
         (format!("endless, {name}"), Some(FRAME.number), bytes)
     }
+}
+
+/// Whether it is told STALE for want of an age: a whole request of the kind
+/// that carries none, with a form and degrees that are legal.
+fn is_ageless(bytes: &[u8]) -> bool {
+    if bytes.len() < HEAD || usize::from(word(bytes, 0)) != bytes.len() {
+        return false;
+    }
+    let [form, first, second, n] = [4, 5, 6, 7].map(|at| u32::from(bytes[at]));
+    let request = Request {
+        form,
+        first,
+        second,
+        n,
+        age: 0,
+        surface: &[],
+        path: &[],
+    };
+    TODAY.ageless.is_none() && word(bytes, 2) == REQUEST && request.shape(&TODAY).is_ok()
 }
 
 /// A good record to which the kind of the other request was given: its body

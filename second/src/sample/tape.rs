@@ -1,9 +1,10 @@
 //! A trace while it is recorded: what a replay of it must count is known.
 
 use super::records::Records;
-use crate::door::{door, ROOM};
-use crate::record::{put, settle, word};
-use crate::replay::{Five, LENGTHS};
+use crate::door::door_of;
+use crate::edition::{Edition, TODAY};
+use crate::record::{put, settle, word, HEAD};
+use crate::replay::Five;
 use crate::xorshift::Xorshift;
 
 /// A trace and what is known of its pairs.
@@ -43,16 +44,48 @@ impl Tape {
 
 /// The stream of exchanges of one seed.
 pub struct Recorder {
+    edition: &'static Edition,
     pub(super) rng: Xorshift,
     records: Records,
 }
 
 impl Recorder {
+    /// Today's recorder.
     pub fn new(seed: u64) -> Self {
+        Self::of(&TODAY, seed)
+    }
+
+    /// The recorder of an edition: what its door replies, in records that its
+    /// traces hold.
+    pub fn of(edition: &'static Edition, seed: u64) -> Self {
         Recorder {
+            edition,
             rng: Xorshift::new(!seed),
             records: Records::new(seed),
         }
+    }
+
+    /// The least and the largest length of a record.
+    pub fn lengths(&self) -> [usize; 2] {
+        [HEAD, self.edition.longest]
+    }
+
+    /// The reply to a request.
+    pub fn answered(&self, request: &[u8]) -> Vec<u8> {
+        let mut reply = vec![0; self.edition.room()];
+        let count = door_of(self.edition, request, &mut reply);
+        reply.truncate(count);
+        reply
+    }
+
+    /// A length that no recorded record has.
+    fn no_length(&mut self) -> u16 {
+        let [least, most] = self.lengths();
+        let none: Vec<u16> = ODD_LENGTHS
+            .into_iter()
+            .filter(|&length| !(least..=most).contains(&usize::from(length)))
+            .collect();
+        self.rng.pick(&none)
     }
 
     /// A trace of `count` pairs, the reply wrong once in `times`, or never if
@@ -74,10 +107,10 @@ impl Recorder {
     pub fn exchange(&mut self) -> (Vec<u8>, Vec<u8>) {
         loop {
             let request = self.records.draw().bytes;
-            let [least, most] = LENGTHS;
+            let [least, most] = self.lengths();
             let held = (least..=most).contains(&request.len());
             if held && usize::from(word(&request, 0)) == request.len() {
-                let reply = answered(&request);
+                let reply = self.answered(&request);
                 return (request, reply);
             }
         }
@@ -85,7 +118,7 @@ impl Recorder {
 
     /// A reply that a trace can hold, other than this one.
     pub fn mistaken(&mut self, reply: &[u8]) -> Vec<u8> {
-        let [least, most] = LENGTHS;
+        let [least, most] = self.lengths();
         let mut other = reply.to_vec();
         while other == reply {
             match self.rng.below(6) {
@@ -124,8 +157,8 @@ impl Recorder {
                 tape.bytes.extend(&pair[..count]);
                 return;
             }
-            1 => put(&mut request, 0, self.rng.pick(&NO_LENGTHS)),
-            _ => put(&mut reply, 0, self.rng.pick(&NO_LENGTHS)),
+            1 => put(&mut request, 0, self.no_length()),
+            _ => put(&mut reply, 0, self.no_length()),
         }
         tape.bytes.extend([request, reply].concat());
         // What comes after is not read either.
@@ -134,14 +167,8 @@ impl Recorder {
     }
 }
 
-/// Lengths that no recorded record has.
-const NO_LENGTHS: [u16; 14] = [
+/// Lengths of which an edition's records have none, or only the least and the
+/// largest few.
+const ODD_LENGTHS: [u16; 14] = [
     0, 1, 6, 7, 127, 128, 129, 255, 256, 264, 0x0800, 0x7e00, 0x8000, 0xffff,
 ];
-
-/// The reply to a request.
-pub fn answered(request: &[u8]) -> Vec<u8> {
-    let mut reply = [0; ROOM];
-    let count = door(request, &mut reply);
-    reply[..count].to_vec()
-}

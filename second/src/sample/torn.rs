@@ -1,8 +1,8 @@
 //! Random traces for the converter, the sheet and the salvage of tickets 10,
 //! 12 and 13, the same for the same seed.
 
-use super::tape::answered;
 use super::traces::{Recorder, Traces};
+use crate::edition::{Edition, TODAY};
 use crate::record::{put, settle, HEAD, REPLY};
 use crate::xorshift::Xorshift;
 
@@ -19,10 +19,15 @@ pub struct Torn {
 
 impl Torn {
     pub fn new(seed: u64) -> Self {
-        let mut recorder = Recorder::new(!seed);
+        Self::of(&TODAY, seed)
+    }
+
+    /// The same over what an edition's recorder made.
+    pub fn of(edition: &'static Edition, seed: u64) -> Self {
+        let mut recorder = Recorder::of(edition, !seed);
         Torn {
             rng: Xorshift::new(seed.wrapping_add(13)),
-            traces: Traces::new(seed),
+            traces: Traces::of(edition, seed),
             whole: recorder.tape(3, 4).bytes,
             recorder,
             turn: 0,
@@ -45,7 +50,7 @@ impl Torn {
         put(&mut odd, 2, kind);
         let what = match self.rng.below(3) {
             0 => {
-                let reply = answered(&odd);
+                let reply = self.recorder.answered(&odd);
                 bytes.extend([odd, reply].concat());
                 "request"
             }
@@ -106,7 +111,7 @@ impl Torn {
                 let mut request = self.recorder.exchange().0;
                 let kind = self.rng.pick(&[0x0000, 0x0003, 0x0101, REPLY]);
                 put(&mut request, 2, kind);
-                let reply = answered(&request);
+                let reply = self.recorder.answered(&request);
                 bytes.extend([request, reply].concat());
                 bytes.extend(self.few());
                 ("another kind".to_string(), bytes)

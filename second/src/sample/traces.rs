@@ -3,9 +3,9 @@
 pub use super::tape::{Recorder, Tape};
 
 use super::share;
-use super::tape::answered;
+use crate::edition::{Edition, TODAY};
 use crate::record::{put, AGED, REQUEST};
-use crate::replay::{Five, LENGTHS};
+use crate::replay::Five;
 
 /// One trace and what a replay must count, where the kind settles it.
 #[derive(Clone, Debug)]
@@ -65,7 +65,12 @@ pub struct Traces {
 
 impl Traces {
     pub fn new(seed: u64) -> Self {
-        let mut recorder = Recorder::new(seed);
+        Self::of(&TODAY, seed)
+    }
+
+    /// Traces that an edition's recorder made.
+    pub fn of(edition: &'static Edition, seed: u64) -> Self {
+        let mut recorder = Recorder::of(edition, seed);
         Traces {
             whole: recorder.tape(3, 4),
             recorder,
@@ -123,7 +128,7 @@ impl Traces {
 
     /// A pair with a request or a reply of this length among others.
     fn lengths(&mut self, turn: usize) -> Trace {
-        const ALL: [usize; 12] = [4, 6, 7, 8, 9, 34, 125, 126, 127, 128, 255, 264];
+        const ALL: [usize; 14] = [4, 6, 7, 8, 9, 34, 125, 126, 127, 128, 129, 130, 255, 264];
         let length = ALL[turn / 2 % ALL.len()];
         let count = self.below(3);
         let mut tape = self.recorder.tape(count, 4);
@@ -132,13 +137,13 @@ impl Traces {
             0 => {
                 let mut request = odd;
                 put(&mut request, 2, self.recorder.rng.pick(&[REQUEST, AGED]));
-                let reply = answered(&request);
+                let reply = self.recorder.answered(&request);
                 ("request", request, reply)
             }
             _ => ("reply", self.recorder.exchange().0, odd),
         };
-        let wrong = reply != answered(&request);
-        let [least, most] = LENGTHS;
+        let wrong = reply != self.recorder.answered(&request);
+        let [least, most] = self.recorder.lengths();
         if (least..=most).contains(&length) {
             tape.push(&request, &reply, wrong);
             if self.below(2) == 0 {

@@ -1,0 +1,2 @@
+-- What becomes of an old trace. Assumes nothing.
+pub mod Convert

@@ -1,0 +1,3 @@
+-- What the converter promises of a replay, over the door's two readings. Assumes nothing.
+pub mod Alike
+pub mod Conversion

@@ -1,0 +1,124 @@
+-- `converter::put_aged` meets its contract. Assumes nothing.
+use native.Mathlib.Omega.{arith}
+use lib.ListN.{length-take, length-drop}
+use Rattle.spell.proofs.Writing.{written-then}
+use Rattle.converter.proofs.Leaves.{aged-size, aged-written}
+use borrow.Author.Needs.{needs}
+use Rattle.converter.proofs.put_aged.Statement.{statement}
+use Rattle.converter.proofs.put_aged.Tie as tie
+
+add-size : tie.Need-add-size
+add-size c = search needs
+
+cast-head : tie.Need-cast-head
+cast-head c = search needs
+
+array-write-head : tie.Need-array-write-head
+array-write-head c = search needs
+
+cast-head-2 : tie.Need-cast-head-2
+cast-head-2 c = search needs
+
+array-write-head-2 : tie.Need-array-write-head-2
+array-write-head-2 c = search needs
+
+array-write-head-3 : tie.Need-array-write-head-3
+array-write-head-3 c = search needs
+
+shared-slice-read-head : tie.Need-shared-slice-read-head
+shared-slice-read-head c = search needs
+
+array-write-head-4 : tie.Need-array-write-head-4
+array-write-head-4 c = search needs
+
+shared-slice-read-head-2 : tie.Need-shared-slice-read-head-2
+shared-slice-read-head-2 c = search needs
+
+array-write-head-5 : tie.Need-array-write-head-5
+array-write-head-5 c = search needs
+
+shared-slice-read-head-3 : tie.Need-shared-slice-read-head-3
+shared-slice-read-head-3 c = search needs
+
+array-write-head-6 : tie.Need-array-write-head-6
+array-write-head-6 c = search needs
+
+shared-slice-read-head-4 : tie.Need-shared-slice-read-head-4
+shared-slice-read-head-4 c = search needs
+
+array-write-head-7 : tie.Need-array-write-head-7
+array-write-head-7 c = search needs
+
+slice-aggregate-write-bytes : tie.Need-slice-aggregate-write-bytes
+slice-aggregate-write-bytes c = search needs
+
+write-bytes-requires : tie.Need-write-bytes-requires
+write-bytes-requires c κs = omega (
+  arith,
+  aged-size _ (c .before .before .before .before .before .before .before .before .pre .0 .0) (c .before
+      .before .before .before .before .before .before .before .pre .0 .2),
+  c .before .before .before .before .before .before .before .before .pre .1,
+)
+
+sub-write-bytes : tie.Need-sub-write-bytes
+sub-write-bytes c = search needs
+
+part-write-bytes-start : tie.Need-part-write-bytes-start
+part-write-bytes-start c = search needs
+
+part-write-bytes-end : tie.Need-part-write-bytes-end
+part-write-bytes-end c = search needs
+
+write-bytes-requires-2 : tie.Need-write-bytes-requires-2
+write-bytes-requires-2 c κs =
+    simp (length-take, length-drop)
+    (omega (
+      arith,
+      aged-size _ (c .before .before .before .before .before .before .before .before .before .before .before .before .before
+          .pre .0 .0) (c .before .before .before .before .before .before .before .before .before .before .before .before .before .pre .0 .2),
+      c .before
+          .before .before .before .before .before .before .before .before .before .before .before .before .pre .1,
+      length-drop 8 (c .before
+          .before .before .before .before .before .before .before .before .before .before .before .before .args .request .now),
+      c .before .before
+          .before .before .write-bytes .ensures .ends,
+    ))
+
+same-length : tie.Need-same-length
+same-length c = search needs
+
+returns : tie.Need-returns
+returns c =
+    aged-written (c .before .before .before .before .before .before .before .before .before .before .before .before .before .before .before
+    .before .args .request .now) (c .before .before .before .before .before .before .before .before .before .before .before .before .before
+    .before .before .before .pre .0 .0) (c .before .before .before .before .before .before .before .before .before .before .before .before
+    .before .before .before .before .pre .0 .2)
+    (written-then _ _ _ _ _ _ _ _ _ _ (c .before .before .before .before .before .before .before .write-bytes .ensures) (c .before .before
+    .write-bytes2 .ensures))
+
+pub put-aged-spec : {M : Type 1} → statement M
+put-aged-spec =
+    tie.close
+    (tie.spec
+    add-size
+    cast-head
+    array-write-head
+    cast-head-2
+    array-write-head-2
+    array-write-head-3
+    shared-slice-read-head
+    array-write-head-4
+    shared-slice-read-head-2
+    array-write-head-5
+    shared-slice-read-head-3
+    array-write-head-6
+    shared-slice-read-head-4
+    array-write-head-7
+    slice-aggregate-write-bytes
+    write-bytes-requires
+    sub-write-bytes
+    part-write-bytes-start
+    part-write-bytes-end
+    write-bytes-requires-2
+    same-length
+    returns)

@@ -1,0 +1,2 @@
+-- What a call from C or Rust leaves in the lent arrays. Assumes nothing.
+pub mod Converts

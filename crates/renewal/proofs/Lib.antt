@@ -1,0 +1,2 @@
+-- Laws of a night that is carried through the converter. Assumes nothing.
+pub mod Carrying
