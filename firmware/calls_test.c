@@ -165,7 +165,7 @@ static void put_word(uint8_t *at, uint32_t word)
     at[1] = (uint8_t)(word >> 8 & 255);
 }
 
-static unsigned long door_accepted, compose_accepted, replay_same, salvage_kept, tick_accepted, card_accepted, patch_accepted, sheet_accepted;
+static unsigned long door_accepted, compose_accepted, replay_same, convert_changed, salvage_kept, tick_accepted, card_accepted, patch_accepted, sheet_accepted;
 
 enum { RECORD = 256 };
 
@@ -288,6 +288,42 @@ static void replayed(unsigned long call)
     } else if (!filled(words, words_length * sizeof *words)) {
         wrong("written without room", call);
     }
+    give_back();
+}
+
+/* at most one page of room where that is too little for a call, else the room that it asks for, from the heap */
+static void converted(unsigned long call)
+{
+    uint8_t drawn_trace[TRACE];
+    const size_t length = draw_trace(drawn_trace);
+    const int fits = below(2) == 0;
+    const size_t room_length = fits ? LEAN_CONVERT_ROOM + below(8) : below(1024);
+    uint8_t *held = (uint8_t *)block(LEAN_CONVERT_HELD);
+    uint64_t *words = (uint64_t *)block(LEAN_CONVERT_WORDS * sizeof(uint64_t));
+    uint8_t *part = (uint8_t *)block(length);
+    uint8_t *large = (uint8_t *)malloc(LEAN_CONVERT_ROOM + 8);
+    uint8_t *out = fits ? large : (uint8_t *)block(room_length);
+    size_t put = 0;
+
+    if (large == NULL) {
+        exit(2);
+    }
+    memset(large, FILL, LEAN_CONVERT_ROOM + 8);
+    memset(held, 0, LEAN_CONVERT_HELD);
+    memset(words, 0, LEAN_CONVERT_WORDS * sizeof *words);
+    memcpy(part, drawn_trace, length);
+    lean_convert(held, words, part, length, out, room_length);
+    put = (size_t)words[3];
+    if (memcmp(part, drawn_trace, length) != 0 || words[2] != (fits ? length : 0) || words[4] > 1 || put > room_length ||
+        !filled(out + put, room_length - put)) {
+        wrong("the converter's words", call);
+    }
+    put += lean_convert_end(held, words, out + put, room_length - put);
+    if (fits && put != length + 2 * words[1]) {
+        wrong("another conversion", call);
+    }
+    convert_changed += words[1];
+    free(large);
     give_back();
 }
 
@@ -535,7 +571,7 @@ int main(int count, char **arguments)
         room[k] = (unsigned char *)at;
     }
     for (k = 0; k < calls; k++) {
-        switch (k % 8) {
+        switch (k % 9) {
         case 0:
             at_the_door(k);
             break;
@@ -557,18 +593,21 @@ int main(int count, char **arguments)
         case 6:
             salvaged(k);
             break;
+        case 7:
+            converted(k);
+            break;
         default:
             sheeted(k);
         }
     }
-    if (calls >= 1000 && (door_accepted == 0 || compose_accepted == 0 || replay_same == 0 || salvage_kept == 0 || tick_accepted == 0 ||
+    if (calls >= 1000 && (door_accepted == 0 || compose_accepted == 0 || replay_same == 0 || convert_changed == 0 || salvage_kept == 0 || tick_accepted == 0 ||
                           card_accepted == 0 || patch_accepted == 0 || sheet_accepted == 0)) {
         printf("some function never accepted\n");
         return 1;
     }
-    printf("%lu calls, seed %s, %s: accepted %lu at the door, %lu composed, %lu replies the same, %lu salvaged, %lu read, %lu on the card, "
-           "%lu patches, %lu sheets\n",
-           calls, arguments[2], arguments[1], door_accepted, compose_accepted, replay_same, salvage_kept, tick_accepted, card_accepted, patch_accepted,
+    printf("%lu calls, seed %s, %s: accepted %lu at the door, %lu composed, %lu replies the same, %lu requests converted, %lu salvaged, %lu read, "
+           "%lu on the card, %lu patches, %lu sheets\n",
+           calls, arguments[2], arguments[1], door_accepted, compose_accepted, replay_same, convert_changed, salvage_kept, tick_accepted, card_accepted, patch_accepted,
            sheet_accepted);
     return 0;
 }

@@ -196,6 +196,19 @@ static void call_sheet(void)
     }
 }
 
+static void call_convert(void)
+{
+    static uint8_t held[LEAN_CONVERT_HELD];
+    static uint64_t converter[LEAN_CONVERT_WORDS];
+    static uint8_t out[LEAN_CONVERT_ROOM];
+
+    lean_convert(held, converter, trace, trace_length, out, sizeof out);
+    if (converter[2] != trace_length || converter[3] != trace_length || lean_convert_end(held, converter, out, sizeof out) != 0) {
+        printf("%s is not converted\n", asked->name);
+        exit(1);
+    }
+}
+
 /* ---- the stack */
 
 static ucontext_t here, there;
@@ -232,14 +245,15 @@ static size_t used(void (*call)(void))
 }
 
 /* every function, by its name; what is left is the most that it took */
-enum { DOOR, COMPOSE, REPLAY, SALVAGE, SHEET, TICK, CARD, PATCH, FUNCTIONS };
+enum { FUNCTIONS = 9 };
 
 static const struct {
     const char *name;
     void (*call)(void);
 } functions[FUNCTIONS] = {
-    {"door_reply", call_door}, {"lean_compose", call_compose}, {"lean_replay", call_replay}, {"lean_salvage", call_salvage},
-    {"lean_sheet", call_sheet}, {"lean_tick", call_tick},      {"lean_card", call_card},     {"lean_patch", call_patch},
+    {"door_reply", call_door}, {"lean_compose", call_compose}, {"lean_replay", call_replay},
+    {"lean_convert", call_convert}, {"lean_salvage", call_salvage}, {"lean_sheet", call_sheet},
+    {"lean_tick", call_tick},  {"lean_card", call_card},       {"lean_patch", call_patch},
 };
 
 static int stacks(size_t allowed)

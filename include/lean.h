@@ -76,6 +76,26 @@ enum {
 uint32_t lean_salvage(const uint8_t *window, size_t window_length, uint32_t last, uint64_t *words, size_t words_length,
                       uint8_t *line, size_t line_length) LEAN_NONNULL;
 
+/* ---- a trace from before the age, converted as it comes ----
+ *
+ * The converter is yours, in two arrays of just these sizes; all zeros have taken nothing. */
+enum {
+    LEAN_CONVERT_HELD = 256,   /* the bytes of the pair that is not whole yet, zeros behind them */
+    LEAN_CONVERT_WORDS = 5,    /* how many bytes there are from its start on, and how many requests were changed; then what a call tells */
+    LEAN_CONVERT_PART = 65536, /* the most bytes that one call takes */
+    LEAN_CONVERT_ROOM = 74016  /* what so many bytes put out at most */
+};
+
+/* Takes the next part of an old trace and puts its conversion to the front of `out`: a request without an age gains an age of 0, all else is
+ * copied. words[2] is how many bytes of the part were taken (all up to LEAN_CONVERT_PART; none where `out` has fewer than
+ * LEAN_CONVERT_ROOM places), words[3] how many were put out, and words[4] is 1 where the trace, if it ended here, could not be converted.
+ * `held` has LEAN_CONVERT_HELD places, `words` LEAN_CONVERT_WORDS; no two of the arrays overlap. Later bytes of `out` stay. */
+void lean_convert(uint8_t *held, uint64_t *words, const uint8_t *part, size_t part_length, uint8_t *out, size_t out_length) LEAN_NONNULL;
+
+/* At the end of a trace: puts what is still kept to the front of `out` and returns how many bytes that is; 0, and nothing is written, where
+ * `out` has fewer than LEAN_CONVERT_HELD places. */
+size_t lean_convert_end(const uint8_t *held, const uint64_t *words, uint8_t *out, size_t out_length) LEAN_NONNULL;
+
 /* ---- the daily sheet, fed as it comes ----
  *
  * The state is yours, in four arrays of just these sizes; all zeros have taken nothing. */

@@ -15,7 +15,7 @@ use Rattle.net.specs.Composed.{point}
 use Rattle.net.specs.Reading.{drawn, surfaceRead}
 use Rattle.net.proofs.Moment.{moment, drawn-is}
 use Rattle.compose.specs.Afterwards.{Arrays, roomsOf, pointsAfter}
-use Rattle.compose.proofs.Written.{afterwards-at}
+use Rattle.lists.proofs.Written.{afterwards-at}
 
 points-at : (rq : Request) (age : ℕ) (lent : Arrays) → answer rq age (roomsOf lent) .number ≡ 0
     → (R : ℕ) → R ≤ longest (rq .head) → getD (pointsAfter rq age lent) R (pos 0) ≡ point rq R

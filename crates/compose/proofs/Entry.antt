@@ -24,8 +24,9 @@ use Rattle.net.specs.Sizes.{Composable}
 use Rattle.net.proofs.Bounds.{numerator-size}
 use Rattle.sums.specs.Contract.{Summed, Formed}
 use Rattle.compose.specs.Afterwards.{afterwards, Arrays, roomsOf, highAfter, lowAfter, pointsAfter, rideTree, entriesOf, entriesAfter}
-use Rattle.compose.specs.Contract.{Composed, roundedAt, PointsAt, Enough, Wrote}
-use Rattle.compose.proofs.Written.{afterwards-none, afterwards-same}
+use Rattle.writing.specs.Placed.{roundedAt, PointsAt, Enough, Wrote}
+use Rattle.compose.specs.Contract.{Composed}
+use Rattle.lists.proofs.Written.{afterwards-none, afterwards-same}
 
 -- a refusal leaves everything as it was
 pub refused-result : (rq : Request) (age : ℕ) (lent : Arrays) (a : Answer) → a ≡ answer rq age (roomsOf lent) → (a .number ≡ 0 → ⊥)

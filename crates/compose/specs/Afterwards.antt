@@ -1,11 +1,12 @@
 -- What the three output arrays hold afterwards, and how many net entries are reported, for every input. Assumes nothing.
 use mathlib.Core.Bool.{cond}
-use mathlib.Core.List.{List, _++_}
+use mathlib.Core.List.{List}
 use Prim.Native.Nat.{ℕ, _+_}
 use lib.Dec.{eqb}
 use lib.IntN.{ℤ}
-use lib.ListN.{length, drop}
-unfoldable pub use Rattle.lists.specs.Lists.{listBelow}
+use lib.ListN.{length}
+unfoldable pub use Rattle.lists.specs.Lists.{listBelow, afterwards}
+pub use Rattle.writing.specs.Arrays.{Arrays, arrays}
 use Rattle.two_words.specs.Words.{highWord, lowWord}
 use Rattle.request.specs.declared.Head.{Head}
 use Rattle.request.specs.declared.Rooms.{Rooms}
@@ -14,19 +15,6 @@ use Rattle.request.specs.Request.{Request}
 use Rattle.request.specs.Refusal.{answer}
 use Rattle.net.specs.Composed.{numerator, point}
 use Rattle.runs.specs.Tree.{Tree, tree, entries}
-
--- the first count places are written and all later places stay; with count 0 nothing changes
-unfoldable pub afterwards {ℓ} : {A : Type ℓ} → ℕ → (ℕ → A) → List A → List A
-afterwards count f l = listBelow count f ++ drop count l
-
--- the lent arrays: the high words and the low words of the numerators, and the rounded points
-pub record Arrays : Type 0 where
-  pub high : List ℤ
-  pub low : List ℕ
-  pub points : List ℤ
-
-abbrev pub arrays : List ℤ → List ℕ → List ℤ → Arrays
-arrays high low points = record { high = high; low = low; points = points }
 
 -- how many places each of them has
 abbrev pub roomsOf : Arrays → Rooms

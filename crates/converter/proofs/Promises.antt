@@ -34,7 +34,7 @@ new-determined = record { value = _; only = λ r e. e }
 pub refused-determined : (converter : Converter) → Determined (λ (r : Bool). r ≡ endsLong (feedOf converter .kept))
 refused-determined converter = record { value = _; only = λ r e. e }
 
--- `last` and `write_verdict`: a count and a lent buffer
+-- a count and a lent buffer
 pub told-determined : (room : ℕ) (bytes out : List ℕ) → Determined (λ (r : ℕ × List ℕ). Told room bytes out (r .0) (r .1))
 told-determined room bytes out = fixed room bytes out
 

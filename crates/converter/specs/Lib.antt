@@ -1,3 +1,2 @@
--- The converter of old traces as a trace comes in parts, and the line that is printed. Assumes nothing.
+-- The converter of old traces as a trace comes in parts. Assumes nothing.
 pub mod Put
-pub mod Told

@@ -2,9 +2,6 @@
 // converter by value takes the trace in parts, cut anywhere, and puts the converted trace into lent buffers of a fixed size. What
 // becomes of a whole trace is crate aging's, how it is cut and read crates pairs' and feed's. No function that is public asks
 // anything of its caller.
-mod told;
-
-pub use told::write_verdict;
 ghost use mathlib.Core.Path.{_≡_};
 ghost use mathlib.Core.Bool.{true};
 ghost use mathlib.Core.List.{[]};

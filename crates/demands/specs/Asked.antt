@@ -16,7 +16,7 @@ use Rattle.request.specs.Cascade.{first, decided}
 use Rattle.request.specs.Refusal.{notKind, notDegree, accepted, refusals, answer}
 use Rattle.request.proofs.Cascade.{here, past, end}
 use Rattle.compose.specs.Afterwards.{listBelow}
-use Rattle.compose.proofs.Written.{below-at, below-length}
+use Rattle.lists.proofs.Written.{below-at, below-length}
 use Rattle.wire.specs.Words.{wordEnd, wordBytes, wordAt, numberBytes, numberAt}
 use Rattle.wire.specs.Start.{start, lengthField, kindField, recordStart, recordOf}
 use Rattle.judgement.specs.Record.{agedStart, headIn, isAged, startIn, pathStart, bodyEnd, requestIn}

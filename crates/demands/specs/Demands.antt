@@ -28,7 +28,7 @@ use Rattle.net.specs.Mirror.{mirrored}
 use Rattle.net.proofs.Mirror.{answer-mirrored, numerator-mirrored, point-mirrored}
 use Rattle.compose.specs.Afterwards.{afterwards, Arrays, arrays, roomsOf, highAfter, lowAfter, pointsAfter}
 use Rattle.compose.specs.Contract.{Composed}
-use Rattle.compose.proofs.Written.{afterwards-none, afterwards-at, afterwards-past}
+use Rattle.lists.proofs.Written.{afterwards-none, afterwards-at, afterwards-past}
 use Rattle.demands.specs.Rides.{curve}
 use Rattle.compose.proofs.Demand3.{demand3 as at-every-moment}
 

@@ -13,7 +13,7 @@ use Rattle.request.specs.Request.{Request}
 use Rattle.compose.specs.declared.Composition.{Composition}
 use Rattle.compose.specs.Afterwards.{listBelow, afterwards, Arrays, roomsOf, pointsAfter}
 use Rattle.compose.specs.Contract.{Composed}
-use Rattle.compose.proofs.Written.{below-length, afterwards-none}
+use Rattle.lists.proofs.Written.{below-length, afterwards-none}
 use Rattle.wire.specs.Words.{numberAt}
 use Rattle.judgement.specs.Record.{ageIn, pathStart, requestIn}
 use Rattle.judgement.specs.Judgement.{notBody, tested, mostRooms, composed, judged}

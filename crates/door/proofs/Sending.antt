@@ -19,7 +19,7 @@ use Rattle.request.proofs.Cascade.{Each, decided-is}
 use Rattle.request.proofs.Accepted.{accepts, refusal-empty}
 use Rattle.net.specs.Composed.{point}
 use Rattle.net.proofs.Bounds.{point-size}
-use Rattle.compose.proofs.Written.{below-at, below-length}
+use Rattle.lists.proofs.Written.{below-at, below-length}
 use Rattle.compose.proofs.Entry.{composable}
 use Rattle.wire.specs.Words.{Short}
 use Rattle.replies.specs.Parts.{InBytes, Sendable}

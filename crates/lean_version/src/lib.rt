@@ -2,7 +2,7 @@
 ghost use mathlib.Core.Path.{_≡_};
 ghost use Rattle.lean_version.specs.Version.{version};
 
-const INTERFACE: u32 = 2;
+const INTERFACE: u32 = 3;
 
 const REVISION: u32 = 0;
 

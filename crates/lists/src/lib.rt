@@ -1,1 +1,1 @@
-// Lists by their places: definitions, no code.
+// Lists by their places: definitions and their laws, no code.

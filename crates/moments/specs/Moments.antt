@@ -22,7 +22,7 @@ use Rattle.net.specs.Reading.{drawn, surfaceRead}
 use Rattle.net.proofs.Bounds.{point-size}
 use Rattle.net.proofs.Moment.{moment, drawn-is}
 use Rattle.compose.specs.Afterwards.{Arrays, listBelow, roomsOf, pointsAfter}
-use Rattle.compose.proofs.Written.{below-at, below-length}
+use Rattle.lists.proofs.Written.{below-at, below-length}
 use Rattle.compose.proofs.Entry.{composable}
 use Rattle.door.proofs.Composing.{first-places}
 use Rattle.demands.specs.Demands.{Result, Allowed}

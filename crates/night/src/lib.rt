@@ -88,7 +88,8 @@ pub fn replay_all(input: Stream, progress: Progress, out: Stream) -> Replayed
 {
     let mut part = io::large_buffer();
     let mut lines = [0u8; 134];
-    let night = read_all(input, tally::new(), &mut part, progress);
+    let blank = tally::new();
+    let night = read_all(input, blank, &mut part, progress);
     let behind = night.input;
     let five = tally::finish(night.reader);
     if behind.failed {

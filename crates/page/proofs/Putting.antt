@@ -1,14 +1,15 @@
 -- Laws of putting text on a page, one piece after the other. Assumes nothing.
 use mathlib.Core.Path.{_≡_, refl, sym, ap, _∙_}
-use mathlib.Core.List.{List, [], _∷_, _++_}
-use Prim.Native.Nat.{ℕ, zero, suc, _+_, _-_, _≤_, _<_}
+use mathlib.Core.List.{List, [], _∷_, _++_, append-nil, append-assoc}
+use Prim.Native.Nat.{ℕ, zero, suc, _+_, _-_, _/_, _%_, _≤_, _<_}
 use native.Mathlib.Numerals.{add-one}
 use native.Mathlib.Omega.{arith}
 use lib.ListN.{length, getD, take, set, length-append, length-set, length-take}
 use lib.Seq.{sets, take-all, take-suc, take-nil}
+use borrow.Author.Tests.{lt-ltb, le-ltb}
 use Rattle.spell.specs.Decimal.{Written}
 use Rattle.spell.proofs.Writing.{sets-append, sets-more, front-read}
-use Rattle.page.specs.Page.{fitting, Puts}
+use Rattle.page.specs.Page.{fitting, Puts, hexDigit, byteShown}
 
 length-sets : (l : List ℕ) (i : ℕ) (vs : List ℕ) → length (sets l i vs) ≡ length l
 length-sets l i [] = refl
@@ -20,6 +21,10 @@ take-append zero (x ∷ a) b = let e : 0 - suc (length a) ≡ 0 = omega arith in
 take-append (suc n) (x ∷ a) b =
     let e : suc n - suc (length a) ≡ n - length a = omega arith in
     rw e (ap (λ (l : List ℕ). x ∷ l) (take-append n a b))
+
+-- a page stays as long as it is
+pub puts-size : (page : List ℕ) (at : ℕ) (a page′ : List ℕ) (end : ℕ) → Puts page at a page′ end → length page′ ≡ length page
+puts-size page at a page′ end w = ap length (w .holds) ∙ length-sets page at (fitting page at a)
 
 -- no text
 pub puts-none : (page : List ℕ) (at : ℕ) → Puts page at [] page at
@@ -33,7 +38,7 @@ puts-none page at = record {
 module _ (page : List ℕ) (at : ℕ) (a page′ : List ℕ) (m : ℕ) (b page″ : List ℕ) (end : ℕ)
     (w : Puts page at a page′ m) (x : Puts page′ m b page″ end) where
   size : length page′ ≡ length page
-  size = ap length (w .holds) ∙ length-sets page at (fitting page at a)
+  size = puts-size page at a page′ m w
 
   fit : fitting page at (a ++ b) ≡ fitting page at a ++ fitting page′ m b
   unfolding fitting
@@ -124,3 +129,46 @@ written-size most bytes l l′ n w m =
 -- another way to say the same text
 pub puts-same : (page : List ℕ) (at : ℕ) (a page′ : List ℕ) (end : ℕ) (b : List ℕ) → Puts page at a page′ end → a ≡ b → Puts page at b page′ end
 puts-same page at a page′ end b w e = rw (← e) w
+
+-- a text of which a part is put, and what is left of it: for a loop
+pub record Onward (all page : List ℕ) (at : ℕ) (page′ : List ℕ) (end : ℕ) (left : List ℕ) : Type 0 where
+  pub done : List ℕ
+  pub put : Puts page at done page′ end
+  pub whole : done ++ left ≡ all
+  pub size-is : length page′ ≡ length page
+
+module _ (all page : List ℕ) (at : ℕ) where
+  pub onward-none : Onward all page at page at all
+  onward-none = record { done = []; put = puts-none page at; whole = refl; size-is = refl }
+
+  module _ (page′ : List ℕ) (end : ℕ) (left : List ℕ) (o : Onward all page at page′ end left) where
+    pub onward-more : (piece page″ : List ℕ) (end′ : ℕ) (left′ : List ℕ) → Puts page′ end piece page″ end′ → left ≡ piece ++ left′
+        → Onward all page at page″ end′ left′
+    onward-more piece page″ end′ left′ w e = record {
+      done = o .done ++ piece;
+      put = puts-then page at (o .done) page′ end piece page″ end′ (o .put) w;
+      whole = append-assoc (o .done) piece left′ ∙ ap (λ (l : List ℕ). o .done ++ l) (sym e) ∙ o .whole;
+      size-is = puts-size page′ end piece page″ end′ w ∙ o .size-is;
+    }
+
+    pub onward-all : left ≡ [] → Puts page at all page′ end
+    onward-all e =
+        puts-same page at (o .done) page′ end all (o .put)
+        (sym (append-nil (o .done)) ∙ ap (λ (l : List ℕ). o .done ++ l) (sym e) ∙ o .whole)
+
+-- hexadecimal digits
+pub low-digit : (n : ℕ) → n % 16 < 10 → 48 + n % 16 ≡ hexDigit n
+unfolding hexDigit
+low-digit n l = rw (lt-ltb (n % 16) 10 l)
+
+pub high-digit : (n : ℕ) → 10 ≤ n % 16 → 87 + n % 16 ≡ hexDigit n
+unfolding hexDigit
+high-digit n l = rw (le-ltb (n % 16) 10 l)
+
+pub digits-are : (n a b c d : ℕ) → a ≡ hexDigit (n / 4096) → b ≡ hexDigit (n / 256) → c ≡ hexDigit (n / 16) → d ≡ hexDigit n
+    → _≡_ {A = List ℕ} (a ∷ b ∷ c ∷ d ∷ []) (hexDigit (n / 4096) ∷ hexDigit (n / 256) ∷ hexDigit (n / 16) ∷ hexDigit n ∷ [])
+digits-are n a b c d p q r s = cc
+
+pub byte-is : (before n a b : ℕ) → a ≡ hexDigit (n / 16) → b ≡ hexDigit n → before ∷ a ∷ b ∷ [] ≡ byteShown before n
+unfolding byteShown
+byte-is before n a b p q = cc

@@ -2,7 +2,7 @@
 // place on, as far as there is room, and answers where it ends.
 ghost use mathlib.Core.Path.{_≡_};
 ghost use lib.ListN.{take};
-ghost use Rattle.page.specs.Page.{Puts, counted, numbered};
+ghost use Rattle.page.specs.Page.{Puts, counted, numbered, hexDigit, hexed, byteShown};
 use whole::Num;
 
 pub fn put(text: &[u8], page: &mut [u8], at: usize) -> usize
@@ -38,6 +38,34 @@ pub fn put_number(word: &[u8], n: Num, page: &mut [u8], at: usize) -> usize
     let k = spell::write_number(n, &mut digits, 0);
     let a = put(word, page, at);
     put(&digits[..k], page, a)
+}
+
+// A digit of a number in hexadecimal, its last.
+fn digit(n: u64) -> u8
+    ensures { λ r. ⌜ r ≡ hexDigit n ⌝ }
+{
+    let d = n % 16;
+    if d < 10 {
+        return 48 + d as u8;
+    }
+    87 + d as u8
+}
+
+// A word and a number of two bytes in hexadecimal digits.
+pub fn put_hex(word: &[u8], n: u64, page: &mut [u8], at: usize) -> usize
+    ensures { λ r. ⌜ Puts (now (page .entry)) at (hexed (now (word .entry)) n) (now (page .exit)) r ⌝ }
+{
+    let digits = [digit(n / 4096), digit(n / 256), digit(n / 16), digit(n)];
+    let a = put(word, page, at);
+    put(&digits, page, a)
+}
+
+// A byte in hexadecimal digits, behind one that stands before it.
+pub fn put_byte(before: u8, n: u64, page: &mut [u8], at: usize) -> usize
+    ensures { λ r. ⌜ Puts (now (page .entry)) at (byteShown before n) (now (page .exit)) r ⌝ }
+{
+    let text = [before, digit(n / 16), digit(n)];
+    put(&text, page, at)
 }
 
 // The first n bytes of a page, or all of it where there are fewer.

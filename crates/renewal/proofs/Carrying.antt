@@ -7,8 +7,8 @@ use native.Mathlib.Omega.{arith}
 use lib.ListN.{length, take}
 use lib.Seq.{length-sets, take-all}
 use borrow.Author.Tests.{le-ltb}
-use Rattle.spell.specs.Decimal.{Told}
-use Rattle.spell.proofs.Writing.{front-read, told-front}
+use Rattle.spell.specs.Decimal.{Written, Told}
+use Rattle.spell.proofs.Writing.{front-read, told, told-front}
 use Rattle.feed.specs.Feed.{capped, heldRoom}
 use Rattle.feed.specs.Parts.{uncut, afterAll}
 use Rattle.files.specs.declared.Stream.{Stream}
@@ -125,6 +125,6 @@ module _ {wanted : Bool} {input out input′ out′ : Stream} {first last : Conv
       }
 
 -- the line that is printed
-pub printed : {room : ℕ} {bytes l l′ : List ℕ} {n : ℕ} {out out′ : Stream} → room ≤ length l → Told room bytes l n l′
+pub printed : {room : ℕ} {bytes l l′ : List ℕ} {n : ℕ} {out out′ : Stream} → room ≤ length l → Written room l 0 bytes l′ n
     → Wrote out (take n l′) out′ → Wrote out bytes out′
-printed {room} {bytes} {l} {l′} {n} enough p w = rw (told-front room bytes l l′ n enough p) at w
+printed {room} {bytes} {l} {l′} {n} enough p w = rw (told-front room bytes l l′ n enough (told room bytes l l′ n enough p)) at w

@@ -1,2 +1,3 @@
--- What carrying a night through the converter promises of the bytes that were read. Assumes nothing.
+-- What carrying a night through the converter promises of the bytes that were read, and the line that is printed. Assumes nothing.
 pub mod Carried
+pub mod Verdict

@@ -7,7 +7,8 @@ ghost use Prim.Native.Nat.{_≤_};
 ghost use lib.ListN.{length};
 ghost use Rattle.files.specs.Stream.{Wrote};
 ghost use Rattle.converter.specs.Put.{partRoom, outRoom};
-ghost use Rattle.converter.specs.Told.{verdict};
+ghost use Rattle.spell.specs.Decimal.{Written};
+ghost use Rattle.renewal.specs.Verdict.{verdict, verdictRoom};
 ghost use Rattle.renewal.specs.Carried.{Carries, Looks, Renews};
 
 // The input and the output behind a part, the converter, and how many bytes came.
@@ -168,11 +169,22 @@ pub fn renew(input: Stream, out: Stream, progress: Progress) -> Renewed
     }
 }
 
-// Writes the line that is printed.
+// The line that is printed: `converted n`, n the requests that were changed, or `not converted`.
+fn write_verdict(refused: bool, changed: u64, out: &mut [u8]) -> usize
+    requires { ⌜ verdictRoom ≤ length (now out) ⌝ }
+    ensures { λ r. ⌜ Written verdictRoom (now (out .entry)) 0 (verdict refused changed) (now (out .exit)) r ⌝ }
+{
+    if refused {
+        return spell::write_bytes(b"not converted\n", out, 0);
+    }
+    spell::write_named(b"converted", changed, out, 0)
+}
+
+// Writes that line.
 pub fn print(refused: bool, changed: u64, out: Stream) -> Stream
     ensures { λ r. ⌜ Wrote out (verdict refused changed) r ⌝ }
 {
     let mut line = [0u8; 31];
-    let n = converter::write_verdict(refused, changed, &mut line);
+    let n = write_verdict(refused, changed, &mut line);
     files::write(out, &line[..n])
 }

@@ -1,10 +1,10 @@
 // A night told pair by pair: a line for each pair whose reply differs and where the reading ended, or one pair in words.
 ghost use Prim.Native.Nat.{_<_};
-use crate::ending::put_ending;
-use crate::entry::put_entry;
-use crate::entry::put_page;
+use entries::put_ending;
+use entries::put_entry;
 use files::Stream;
 use page::front;
+use shown::put_page;
 
 // What is asked for is pair `wanted`, or all that differ where that is 0. How many pairs there were, where the next one begins, how
 // many of those asked for differ, and the output.
@@ -225,7 +225,12 @@ fn finish(turn: Turn, held: &[u8; 256], page: &mut [u8]) -> Listed {
     if state.wanted != 0 {
         return left(turn, out);
     }
-    let n = put_ending(state.offset, turn.rest, held, page);
+    let n = put_ending(
+        state.offset,
+        turn.rest,
+        front(held, turn.rest as usize),
+        page,
+    );
     left(turn, files::write(out, front(page, n)))
 }
 

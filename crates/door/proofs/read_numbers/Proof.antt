@@ -4,7 +4,7 @@ use Prim.Native.Nat.{_-_, _≤_}
 use native.Mathlib.Omega.{arith}
 use lib.ListN.{length, length-set}
 use Rattle.compose.specs.Afterwards.{afterwards}
-use Rattle.compose.proofs.Written.{afterwards-none, afterwards-more}
+use Rattle.lists.proofs.Written.{afterwards-none, afterwards-more}
 use Rattle.wire.specs.Words.{numberAt}
 use Rattle.door.proofs.read_numbers.Statement.{statement}
 use Rattle.door.proofs.read_numbers.Tie as tie

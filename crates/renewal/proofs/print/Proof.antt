@@ -13,10 +13,10 @@ write-verdict-requires : tie.Need-write-verdict-requires
 write-verdict-requires c κs = search needs
 
 array-share-prefix-line : tie.Need-array-share-prefix-line
-array-share-prefix-line c = omega (arith, c .before .write-verdict .ensures .within)
+array-share-prefix-line c = omega (arith, c .before .write-verdict .ensures .small)
 
 slice-aggregate-write : tie.Need-slice-aggregate-write
-slice-aggregate-write c = simp length-take (omega (arith, c .before .before .write-verdict .ensures .within))
+slice-aggregate-write c = simp length-take (omega (arith, c .before .before .write-verdict .ensures .small))
 
 write-requires : tie.Need-write-requires
 write-requires c κs = search needs

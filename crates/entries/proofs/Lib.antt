@@ -1,0 +1,2 @@
+-- Laws of the lines of a night told pair by pair. Assumes nothing.
+pub mod Telling

@@ -1,0 +1,2 @@
+-- What stands at a place afterwards. Assumes nothing.
+pub mod Written

@@ -1,0 +1,2 @@
+-- Laws of a pair in words. Assumes nothing.
+pub mod Telling

@@ -1,0 +1,6 @@
+-- A pair in words, as bytes. Assumes nothing.
+pub mod Text
+pub mod Asked
+pub mod Replied
+pub mod Page
+pub mod Examples

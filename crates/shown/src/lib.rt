@@ -1,0 +1,27 @@
+// A pair in words: where it is, the request, the recorded reply beside today's, and their bytes. The page is bytes by definition; no
+// public function asks anything of its caller.
+mod asked;
+mod marked;
+mod replied;
+
+ghost use Rattle.page.specs.Page.{Puts};
+ghost use Rattle.shown.specs.Page.{shownPage};
+use page::put;
+
+// The page of a pair.
+pub fn put_page(
+    number: u64,
+    offset: u64,
+    request: &[u8],
+    recorded: &[u8],
+    today: &[u8],
+    page: &mut [u8],
+) -> usize
+    ensures { λ r. ⌜ Puts (now (page .entry)) 0 (shownPage number offset (now (request .entry)) (now (recorded .entry)) (now (today .entry))) (now (page .exit)) r ⌝ }
+{
+    let a = entries::put_title(number, offset, page, 0);
+    let b = put(b"\n", page, a);
+    let c = asked::put_request(request, page, b);
+    let d = replied::put_table(recorded, today, page, c);
+    marked::put_end(recorded, today, page, d)
+}

@@ -1,0 +1,2 @@
+-- Laws of writing one place after the other. Assumes nothing.
+pub mod Placing
