@@ -49,7 +49,7 @@ static int refused(const char *name, const uint8_t *request, size_t length, uint
 
 int main(void)
 {
-    /* P1 of document 01: a straight surface from 0 to 100, ridden from end to end, on a tilt sample of this very moment */
+    /* P1 of 01 (rule Worked rides): a straight surface from 0 to 100, ridden from end to end, on a tilt sample of this very moment */
     static const uint8_t ride[] = {18, 0, 2, 0, 1, 1, 0, 1, 0, 0, 0, 0, 100, 0, 0, 0, 0, 4};
     static const uint8_t points[] = {12, 0, 1, 0x80, 0, 0, 2, 0, 0, 0, 100, 0};
     /* P2: 2, 3, -2 */

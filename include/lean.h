@@ -145,7 +145,7 @@ uint32_t lean_tick(const int32_t *points, size_t points_length, uint32_t k, int6
  *   words[1]   place: the least index of a bad control value (VALUE), 0 or 1 for the first bad path number (PARAMETER), else 0
  *   words[2]   count: how many numerators there are; 0 for a refusal, whose record is all plus zero
  *
- * Each numerator is exact: bit for bit the whole number that document 01's numerator over binomial(L, R) is, and never minus zero.
+ * Each numerator is exact: bit for bit the whole number that the composer's numerator over binomial(L, R) is, and never minus zero.
  * The floating-point environment must be C's default: rounded to nearest, subnormal numbers not read as zero.
  * The numbers in the order of judgement: 2 DEGREE (m above 4), 3 SURFACE (not m + 1 control values), 6 VALUE (a control value
  * beyond -4096 to 4096), 7 PARAMETER (a path number that is none: a NaN, an infinity, a fraction, one beyond its bounds).

@@ -86,7 +86,7 @@ extern "C" {
     ) -> u32;
 }
 
-/// Answers one request of document 01, and tells how many net entries were formed for it.
+/// Answers one request (rule Forms and degrees; 01), and tells how many net entries were formed for it.
 #[inline]
 #[allow(clippy::too_many_arguments)]
 pub fn compose(

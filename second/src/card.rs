@@ -1,5 +1,5 @@
-//! Ticket 11: the f64 card, worked out in whole numbers and turned into f64 at
-//! the very end.
+//! Ticket 11 (rule Part of a curve): the f64 card, worked out in whole numbers
+//! and turned into f64 at the very end.
 
 use crate::binomial::binomial;
 use crate::composed::numerators;

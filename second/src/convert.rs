@@ -1,4 +1,4 @@
-//! Ticket 10: old traces made readable under the new rule.
+//! Ticket 10 (rule Old traces): old traces made readable under the new rule.
 
 use crate::edition::{AGED as NEW, LONG as OLD};
 use crate::record::{put, settle, word, AGED, HEAD, REQUEST};

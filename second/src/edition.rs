@@ -15,20 +15,20 @@ pub struct Edition {
     pub longest: usize,
 }
 
-/// The base with tickets 1 to 5 and 14.
+/// The base with tickets 1 to 5 and 14 (rule Forms and degrees).
 pub const SHORT: Edition = Edition {
     most_path_degree: 3,
     ageless: Some(0),
     longest: 126,
 };
 
-/// Ticket 6: N up to 6.
+/// Ticket 6 (rule Forms and degrees): N up to 6.
 pub const LONG: Edition = Edition {
     most_path_degree: 6,
     ..SHORT
 };
 
-/// Ticket 10: no age means old, and traces may hold records of 128 bytes.
+/// Ticket 10 (rule Old traces): no age means old, and traces may hold records of 128 bytes.
 pub const AGED: Edition = Edition {
     ageless: None,
     longest: 128,

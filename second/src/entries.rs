@@ -1,5 +1,5 @@
-//! Ticket 7: how many net entries are formed when each non-decreasing run of
-//! path point numbers is extended one argument at a time.
+//! Ticket 7 (rule Counting): how many net entries are formed when each
+//! non-decreasing run of path point numbers is extended one argument at a time.
 
 use crate::edition::Edition;
 use crate::shape::{Form, Shape};
@@ -59,7 +59,7 @@ mod tests {
         }
     }
 
-    /// Source document 001, formula 8, also beyond the bounds of a request.
+    /// Rule Counting (document 001, formula 8), also beyond the bounds of a request.
     #[test]
     fn the_tree_has_as_many_entries_as_the_formula() {
         for arguments in 0..=7 {

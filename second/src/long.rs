@@ -1,4 +1,4 @@
-//! Ticket 6: longer rides, N up to 6 and L up to 24, two words to a numerator.
+//! Ticket 6 (rule Two words): longer rides, N up to 6 and L up to 24, two words to a numerator.
 
 use crate::composed::composed;
 use crate::edition::LONG;

@@ -1,5 +1,5 @@
-//! Ticket 8: a triangular piece of a triangular surface, the piece curved:
-//! source document 002, theorem 1, by its sum over all choices.
+//! Ticket 8 (rule Patches on patches): a triangular piece of a triangular surface,
+//! the piece curved: source document 002, theorem 1, by its sum over all choices.
 
 use crate::blossom::{blossom, Argument, Net};
 use crate::quantity::{PathNumber, Travel, SCALE};
@@ -11,7 +11,7 @@ use crate::Answer;
 /// The largest outer degree, and the largest domain degree.
 pub const MOST_DEGREE: u32 = 3;
 
-/// The indices (i, j, k) with sum `degree`, in the order of document 01.
+/// The indices (i, j, k) with sum `degree`, in the order of 01 (rule Order of the numbers).
 pub fn indices(degree: usize) -> Vec<[usize; 3]> {
     let mut all = Vec::new();
     for i in 0..=degree {
@@ -53,7 +53,7 @@ pub fn patch(
     Answer::accepted(composed.len())
 }
 
-/// The numerators and rounded points in 01's order, or the first refusal.
+/// The numerators and rounded points in 01's order (rule Order of the numbers), or the first refusal.
 fn composed(
     outer: u32,
     domain: u32,

@@ -73,7 +73,7 @@ pub fn surface(shape: &Shape, surface: &[Travel], path: &[PathNumber], k: i128, 
     }
 }
 
-/// Σ n!/(i!·j!·k!)·x^i·y^j·z^k·p(i,j,k), the values in 01's order.
+/// Σ n!/(i!·j!·k!)·x^i·y^j·z^k·p(i,j,k), the values in 01's order (rule Order of the numbers).
 pub fn triangle(values: &[i128], n: usize, [x, y, z]: [i128; 3]) -> i128 {
     let mut next = values.iter();
     let mut sum = 0;

@@ -1,4 +1,4 @@
-//! Ticket 13: what can be saved of a torn trace.
+//! Ticket 13 (rule Salvage): what can be saved of a torn trace.
 
 use crate::door::door_of;
 use crate::edition::Edition;

@@ -1,4 +1,4 @@
-//! Ticket 12: the daily sheet of a trace, fed as it comes.
+//! Ticket 12 (rule Daily sheet): the daily sheet of a trace, fed as it comes.
 
 use crate::record::{word, HEAD, REPLY};
 use crate::replay::pair;

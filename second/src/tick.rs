@@ -1,4 +1,4 @@
-//! Ticket 9: the curve of a composed net, read at k/1024.
+//! Ticket 9 (rule Reading at a tick): the curve of a composed net, read at k/1024.
 
 use crate::quantity::{REACH, SCALE};
 use crate::rounding::nearest;

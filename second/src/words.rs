@@ -1,4 +1,4 @@
-//! Ticket 6: a numerator in two words, worth high·2^64 + low.
+//! Ticket 6 (rule Two words): a numerator in two words, worth high·2^64 + low.
 
 /// The signed high word and the unsigned low word of a whole number, by floor
 /// division: the low word is what is left, from 0 to 2^64 − 1.

@@ -1,4 +1,4 @@
-//! Ticket 11: the f64 card.
+//! Ticket 11 (rule Part of a curve): the f64 card.
 
 use second::card::{card, Part};
 use second::xorshift::Xorshift;

@@ -1,4 +1,4 @@
-//! Ticket 10: no age means old, and the converter.
+//! Ticket 10 (rule Old traces): no age means old, and the converter.
 
 use second::convert::{convert, line};
 use second::door::door_of;

@@ -1,12 +1,12 @@
 //! The door: the rides to reckon by hand as bytes, each refusal on both
 //! sides of its condition, the order, and the room. Requests without an age
-//! are asked by the rule of before ticket 10; today's is asked beside it.
+//! are asked by the rule of before ticket 10 (rule Old traces); today's is asked beside it.
 
 use second::door::{door as door_today, door_of, ROOM};
 use second::edition::{LONG, TODAY};
 
-/// The door of before ticket 10. Today's tells the same, unless a request
-/// carries no age: then it tells STALE, or what comes before.
+/// The door of before ticket 10 (rule Old traces). Today's tells the same,
+/// unless a request carries no age: then it tells STALE, or what comes before.
 fn door(request: &[u8], reply: &mut [u8]) -> usize {
     let mut today = reply.to_vec();
     let count = door_of(&LONG, request, reply);

@@ -1,4 +1,4 @@
-//! Ticket 6: longer rides, in two words to a numerator.
+//! Ticket 6 (rule Two words): longer rides, in two words to a numerator.
 
 use second::door::{door_of, FRAME};
 use second::edition::{LONG, SHORT};

@@ -1,4 +1,4 @@
-//! Ticket 8: patches on patches.
+//! Ticket 8 (rule Patches on patches).
 
 use second::patch::{indices, multinomial, patch};
 use second::ride::triangle;

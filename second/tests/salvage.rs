@@ -1,4 +1,4 @@
-//! Ticket 13: salvage a torn trace.
+//! Ticket 13 (rule Salvage): salvage a torn trace.
 
 use second::edition::{Edition, AGED, SHORT};
 use second::replay::replay_of;

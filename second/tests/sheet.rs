@@ -1,4 +1,4 @@
-//! Ticket 12: the daily sheet.
+//! Ticket 12 (rule Daily sheet).
 
 use second::edition::AGED;
 use second::record::{settle, REPLY};

@@ -1,4 +1,4 @@
-//! Ticket 9: the curve read at a tick.
+//! Ticket 9 (rule Reading at a tick): the curve read at a tick.
 
 use second::edition::LONG;
 use second::long::compose;

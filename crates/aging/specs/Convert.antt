@@ -1,6 +1,6 @@
 -- The converter on the whole list of bytes: "in each whole pair that the old reading takes, a request of kind 0x0001 becomes
--- 0x0002 with age 0, length two more; all else is copied, and so is everything from where the old reading ends" (02, ticket
--- 10). Its laws are in proofs/{Same,Again}.antt. Assumes nothing.
+-- 0x0002 with age 0, length two more; all else is copied, and so is everything from where the old reading ends" (rule Old traces;
+-- 02, ticket 10). Its laws are in proofs/{Same,Again}.antt. Assumes nothing.
 use mathlib.Core.Path.{_≡_, refl}
 use mathlib.Core.Bool.{Bool, true, false, cond, _&&_, _||_}
 use mathlib.Core.List.{List, [], _∷_, _++_, map}

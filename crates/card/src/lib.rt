@@ -1,5 +1,5 @@
-// The f64 card (02, ticket 11): a part of a curve in, a record of up to five f64 numerators over 1024^m out, by value. The card
-// computes in f64; its contract, over bits, stands in crate `part`.
+// The f64 card (rule Part of a curve; 02, ticket 11): a part of a curve in, a record of up to five f64 numerators over 1024^m out,
+// by value. The card computes in f64; its contract, over bits, stands in crate `part`.
 ghost use mathlib.Core.Path.{_≡_};
 ghost use mathlib.Core.Bool.{false, cond};
 ghost use Prim.Native.Nat.{_≤_};

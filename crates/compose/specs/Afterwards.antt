@@ -20,8 +20,8 @@ use Rattle.runs.specs.Tree.{Tree, tree, entries}
 abbrev pub roomsOf : Arrays → Rooms
 roomsOf lent = record { high = length (lent .high); low = length (lent .low); points = length (lent .points) }
 
--- "A refusal changes none of them" (02, ticket 6). "On acceptance the first L+1 places of each are written and all later places
--- stay."
+-- "A refusal changes none of them" (rule What stays; 02, ticket 6). "On acceptance the first L+1 places of each are written and
+-- all later places stay."
 unfoldable pub highAfter : Request → ℕ → Arrays → List ℤ
 highAfter rq age lent = afterwards (answer rq age (roomsOf lent) .count) (λ R. highWord (numerator rq R)) (lent .high)
 
@@ -31,8 +31,8 @@ lowAfter rq age lent = afterwards (answer rq age (roomsOf lent) .count) (λ R. l
 unfoldable pub pointsAfter : Request → ℕ → Arrays → List ℤ
 pointsAfter rq age lent = afterwards (answer rq age (roomsOf lent) .count) (point rq) (lent .points)
 
--- "For forms 1 and 3 the answer also carries how many net entries were formed" (02, ticket 7): those of the tree of runs of r of
--- the N + 1 path points; "A refused request reports 0, and so does form 2."
+-- "For forms 1 and 3 the answer also carries how many net entries were formed" (rule Counting; 02, ticket 7): those of the tree of
+-- runs of r of the N + 1 path points; "A refused request reports 0, and so does form 2."
 unfoldable pub rideTree : Head → Tree
 rideTree h = tree (degree h) 0 (h .N + 1)
 

@@ -1,5 +1,5 @@
-// The lean curve composer: document 01's public entry. A request is judged whole before anything is written; an accepted
-// one has its exact numerators, as a high and a low word each, and its rounded points written to the three lent arrays.
+// The lean curve composer: the public entry (rule Forms and degrees; 01). A request is judged whole before anything is written; an
+// accepted one has its exact numerators, as a high and a low word each, and its rounded points written to the three lent arrays.
 ghost use mathlib.Core.Path.{_≡_};
 ghost use Rattle.request.specs.Request.{requestOf};
 ghost use Rattle.sums.specs.Contract.{Formed};
@@ -21,7 +21,7 @@ fn reported(head: Head, formed: u64) -> u64
     formed
 }
 
-// Document 01's answer, and how many net entries were formed for it (02, ticket 7): 0 for form 2 and for a refusal.
+// 01's answer (rule Refusals), and how many net entries were formed for it (rule Counting; 02, ticket 7): 0 for form 2 and for a refusal.
 pub struct Composition {
     pub answer: Answer,
     pub entries: u64,

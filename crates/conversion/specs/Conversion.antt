@@ -1,4 +1,4 @@
--- The page of ticket 10: what a replay of a converted trace gives. Assumes nothing.
+-- The page of ticket 10 (rule Old traces): what a replay of a converted trace gives. Assumes nothing.
 use mathlib.Core.Path.{_≡_, ap}
 use mathlib.Core.Bool.{false}
 use mathlib.Core.List.{List}

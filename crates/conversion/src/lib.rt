@@ -1,1 +1,1 @@
-// The page of ticket 10: what the converter promises of a replay. Definitions and theorems, no code.
+// The page of ticket 10 (rule Old traces): what the converter promises of a replay. Definitions and theorems, no code.

@@ -1,7 +1,7 @@
-// The converter of ticket 10: a trace as it was read when a request without an age counted as age 0, made one for today's door. A
-// converter by value takes the trace in parts, cut anywhere, and puts the converted trace into lent buffers of a fixed size. What
-// becomes of a whole trace is crate aging's, how it is cut and read crates pairs' and feed's. No function that is public asks
-// anything of its caller.
+// The converter of ticket 10 (rule Old traces): a trace as it was read when a request without an age counted as age 0, made one
+// for today's door. A converter by value takes the trace in parts, cut anywhere, and puts the converted trace into lent buffers of
+// a fixed size. What becomes of a whole trace is crate aging's, how it is cut and read crates pairs' and feed's. No function that
+// is public asks anything of its caller.
 ghost use mathlib.Core.Path.{_≡_};
 ghost use mathlib.Core.Bool.{true};
 ghost use mathlib.Core.List.{[]};

@@ -1,6 +1,6 @@
-// The daily sheet of a trace that is fed as it comes (02, ticket 12): a state by value that takes the trace in parts, cut anywhere, some
-// without a byte. How a trace is cut and read is crates pairs' and feed's, what a reply adds is crate sheets'. No function that is
-// public asks anything of its caller.
+// The daily sheet of a trace that is fed as it comes (rule Daily sheet; 02, ticket 12): a state by value that takes the trace in
+// parts, cut anywhere, some without a byte. How a trace is cut and read is crates pairs' and feed's, what a reply adds is crate
+// sheets'. No function that is public asks anything of its caller.
 ghost use mathlib.Core.Path.{_≡_};
 ghost use Prim.Native.Nat.{_≤_};
 ghost use lib.ListN.{length};

@@ -106,7 +106,7 @@ module _ (rq : Request) where
   unfolding notFrame
   framed age = rw (le-ltb (length (requestRecord rq age)) start (omega (arith, record-length age, long age)), eq-eqb _ _ (length-is age), of-kind age)
 
--- a request that a record can hold: its form and degrees are document 01's, and so are its counts
+-- a request that a record can hold: its form and degrees are 01's (rule Forms and degrees), and so are its counts
 pub record Askable (rq : Request) : Type 0 where
   pub kind : notKind (rq .head) ≡ false
   pub degrees : notDegree (rq .head) ≡ false

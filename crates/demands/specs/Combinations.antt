@@ -1,5 +1,5 @@
--- "Count the combinations" (02, ticket 7), for the class surveyor: the tree of runs, its number of net entries, what the composer
--- reports of it, and that the order of a set of arguments never changes the blossom. Assumes nothing.
+-- "Count the combinations" (rule Counting; 02, ticket 7), for the class surveyor: the tree of runs, its number of net entries,
+-- what the composer reports of it, and that the order of a set of arguments never changes the blossom. Assumes nothing.
 use mathlib.Core.Path.{_≡_, refl, _∙_, subst}
 use mathlib.Core.List.{List, [], _∷_, _++_, List·Permᴰ, List·Permᴰ·nil, List·Permᴰ·cons, List·Permᴰ·swap, List·Permᴰ·trans}
 use mathlib.Core.List.{Permᴰ·append-left, Permᴰ·append-right}
@@ -35,7 +35,7 @@ unfolding tree runsOf
 worked-runs = refl
 
 -- Each node forms one net: where d arguments are left, a net of degree d, which has d + 1 entries for form 1 and (d + 1)(d + 2)/2 for
--- form 3 (`size K d`). `entries K` adds them up. Document 001, formula 8, for every r, g and K:
+-- form 3 (`size K d`). `entries K` adds them up. Rule Counting (document 001, formula 8), for every r, g and K:
 pub count-of-entries : (r g K : ℕ) → entries K (tree r 0 g) ≡ choose (r + g + K) r - choose (r + K) r
 count-of-entries r g K = entries-count K r 0 g
 

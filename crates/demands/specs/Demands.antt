@@ -79,9 +79,9 @@ worked-stays (suc zero) m = absurd (omega arith)
 worked-stays (suc (suc R)) m = refl
 
 -- Demand 2. Where a request is accepted, each exact numerator at R = 0 to L is the whole number of the blossom sum
--- (document 000, equation 8; document 004, Corollary 1): the high and the low word there are worth it, and no other two words
--- are (`words-only` of Rattle.two_words.proofs.Only). Each rounded point is that over binomial(L, R)·1024^r, rounded, and every
--- later place of the three arrays stays.
+-- (rule Composed net; document 000, equation 8; document 004, Corollary 1): the high and the low word there are worth it, and no
+-- other two words are (`words-only` of Rattle.two_words.proofs.Only). Each rounded point is that over binomial(L, R)·1024^r,
+-- rounded, and every later place of the three arrays stays.
 pub record Demand2 (rq : Request) (lent : Arrays) (r : Result) : Type 0 where
   pub numerators : r .answer .number ≡ 0 → (R : ℕ) → R ≤ longest (rq .head)
       → IsWords (numerator rq R) (getD (r .left .high) R (pos 0)) (getD (r .left .low) R 0)
@@ -122,7 +122,7 @@ pub record Demand3 (rq : Request) (r : Result) : Type 0 where
 abbrev pub worthAt : Arrays → ℕ → ℤ
 worthAt left R = twoWords (getD (left .high) R (pos 0)) (getD (left .low) R 0)
 
--- Port and starboard (02, ticket 2). "All control values negated, all points negated": of a result r for a request and a
+-- Rule Port and starboard (02, ticket 2). "All control values negated, all points negated": of a result r for a request and a
 -- result s for the mirrored request, the answers are the same, and where they are acceptances, every numerator and every
 -- point at R = 0 to L of the one is that of the other negated.
 pub record Mirror (rq : Request) (r s : Result) : Type 0 where

@@ -1,4 +1,4 @@
--- Port and starboard at the door (02, ticket 2): of a request and of its mirror image, written as records, the replies have
+-- At the door (rule Port and starboard; 02, ticket 2): of a request and of its mirror image, written as records, the replies have
 -- the same answer, and the points of the one are the negated points of the other. Assumes nothing.
 use mathlib.Core.Path.{_≡_, refl}
 use mathlib.Core.List.{map}

@@ -1,4 +1,4 @@
--- "Rides to reckon by hand": P1 to P12 of document 01, with the points of P4 as in document 02, ticket 2, and rides of
+-- "Rides to reckon by hand" (rule Worked rides): P1 to P12 of 01, with the points of P4 as in 02, ticket 2, and rides of
 -- our own; one table and one statement over the definitions. The three arrays are lent with one place more than is needed, so
 -- that the row says too that the last place stays. Assumes nothing.
 use mathlib.Core.Path.{_≡_, refl, sym, _∙_}

@@ -1,5 +1,5 @@
--- Records worked through the definitions: document 01's P1 and P2 as bytes, the two rides of our own that pin every order of
--- numbers (reckoned as in demands/specs/Rides.antt), an age at its bound, and each way to be refused at the door.
+-- Records worked through the definitions: P1 and P2 of 01 (rule Worked rides) as bytes, the two rides of our own that pin every
+-- order of numbers (reckoned as in demands/specs/Rides.antt), an age at its bound, and each way to be refused at the door.
 -- Assumes nothing.
 use mathlib.Core.Path.{_≡_, refl}
 use mathlib.Core.List.{List, [], _∷_, map}

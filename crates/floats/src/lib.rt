@@ -1,5 +1,5 @@
-// Whole numbers as f64, for the drive card (02, ticket 11): which path number an f64 is, travels and path numbers turned into
-// f64, and one blossom step, which is exact on them.
+// Whole numbers as f64, for the drive card (rule Part of a curve; 02, ticket 11): which path number an f64 is, travels and path
+// numbers turned into f64, and one blossom step, which is exact on them.
 ghost use mathlib.Core.Path.{_≡_};
 ghost use lib.IntN.{pos};
 ghost use Rattle.floats.specs.Float.{float};

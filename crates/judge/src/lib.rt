@@ -1,5 +1,5 @@
-// Document 01's nine refusals, ticket 3's with them, tested in the stated order: `judge` answers a number, a place and a count
-// for every request and writes nothing.
+// The nine refusals (rule Refusals; 01, and 02, ticket 3), tested in the stated order: `judge` answers a number, a place and a
+// count for every request and writes nothing.
 mod places;
 
 ghost use mathlib.Core.Path.{_≡_};
@@ -97,7 +97,7 @@ fn balanced(head: Head) -> usize
     head.N as usize + 1
 }
 
-// The nine refusals in their order, each exactly on its condition, or the acceptance: document 01's answer to a request
+// The nine refusals in their order, each exactly on its condition, or the acceptance: 01's answer (rule Refusals) to a request
 // whose output arrays have these rooms.
 pub fn judge(head: Head, age: Age, surface: &[i32], path: &[i32], rooms: Rooms) -> Answer
     ensures { λ r. ⌜ r ≡ answer (requestOf head (now (surface .entry)) (now (path .entry))) (age .0) rooms ⌝ }

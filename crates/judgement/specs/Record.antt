@@ -1,5 +1,5 @@
--- The request records of tickets 1, 3 and 10: what stands where behind the length and the kind with which a record starts
--- (Rattle.wire.specs.Start). Assumes nothing.
+-- The request records of tickets 1, 3 and 10 (rule Records): what stands where behind the length and the kind with which a record
+-- starts (Rattle.wire.specs.Start). Assumes nothing.
 use mathlib.Core.Bool.{Bool, cond}
 use mathlib.Core.List.{List, [], _∷_, _++_}
 use mathlib.Core.Option.{Option, none, some}
@@ -36,7 +36,7 @@ unfoldable pub startIn : List ℕ → ℕ
 startIn bytes = cond (isAged bytes) agedStart start
 
 -- the reading by which a request without an age was judged, "kind 0x0001 counts as age 0 for now" (ticket 3), and today's, "from now
--- on such a request is STALE" (ticket 10): the converter's promise speaks of both. A missing age counts as none, or as the oldest
+-- on such a request is STALE" (rule Old traces; ticket 10): the converter's promise speaks of both. A missing age counts as none, or as the oldest
 pub data Reading : Type 0 where
   former : Reading
   today : Reading

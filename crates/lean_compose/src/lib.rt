@@ -1,5 +1,5 @@
-// The composer for C and Rust: document 01's entry with its answer in a lent array of four words. Each slice crosses as a
-// pointer and a length in elements.
+// The composer for C and Rust: 01's entry (rule Forms and degrees) with its answer in a lent array of four words. Each slice
+// crosses as a pointer and a length in elements.
 ghost use Rattle.compose.specs.Afterwards.{arrays};
 ghost use Rattle.lean_compose.specs.Exported.{requestOf, Exported};
 use crossing::put;

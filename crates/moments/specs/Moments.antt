@@ -1,7 +1,7 @@
--- Ticket 9's theorem, of every reading that the contract of `tick::read` allows: how near it is to the curve and, of a net that
--- the composer answered, to the surface at the path's place. Both sides are scaled to whole numbers, and read by Bernstein's
--- formula (Rattle.net.specs.Reading). That no choice is left is `determined` in Rattle.tick.proofs.Answered, that port and
--- starboard mirror `told-mirrored` in Rattle.tick.proofs.Mirror. Assumes nothing.
+-- The theorem of ticket 9 (rule Reading at a tick), of every reading that the contract of `tick::read` allows: how near it is to
+-- the curve and, of a net that the composer answered, to the surface at the path's place. Both sides are scaled to whole numbers,
+-- and read by Bernstein's formula (Rattle.net.specs.Reading). That no choice is left is `determined` in
+-- Rattle.tick.proofs.Answered, that port and starboard mirror `told-mirrored` in Rattle.tick.proofs.Mirror. Assumes nothing.
 use mathlib.Core.Path.{_≡_, sym, _∙_, ap}
 use mathlib.Core.List.{List, [], append-nil}
 use Prim.Native.Nat.{ℕ, suc, _+_, _*_, _-_, _^_, _≤_}

@@ -1,5 +1,5 @@
--- The literal sum, one chosen number at a time, whatever is read of a choice: document 01's numerator is such a sum. Over this
--- law stand the code's walk and the bound of a numerator. Assumes nothing.
+-- The literal sum, one chosen number at a time, whatever is read of a choice: 01's numerator (rule Composed net) is such a sum.
+-- Over this law stand the code's walk and the bound of a numerator. Assumes nothing.
 use mathlib.Core.Path.{_≡_, sym, _∙_}
 use mathlib.Core.Bool.{cond}
 use mathlib.Core.List.{List, [], _∷_}

@@ -1,6 +1,6 @@
--- "All control values negated, all points negated" (02, ticket 2), over the definitions: a mirrored request gets the same
--- answer, its numerators are the negated ones since the blossom is linear in the net, and its points are the negated ones
--- since rounding mirrors. Assumes nothing.
+-- "All control values negated, all points negated" (rule Port and starboard; 02, ticket 2), over the definitions: a mirrored
+-- request gets the same answer, its numerators are the negated ones since the blossom is linear in the net, and its points are the
+-- negated ones since rounding mirrors. Assumes nothing.
 use mathlib.Core.Path.{_≡_, refl, sym, _∙_, ap}
 use mathlib.Core.Bool.{cond}
 use mathlib.Core.List.{List, map}

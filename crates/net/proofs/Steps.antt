@@ -1,5 +1,5 @@
 -- One step for all three forms. As an argument, a path point is three weights, and the forms differ in nothing else; what
--- is true of steps over weights is true of document 01's three rules at once. Assumes nothing.
+-- is true of steps over weights is true of 01's three steps (rule One argument) at once. Assumes nothing.
 use mathlib.Core.Path.{_≡_, refl, _∙_, ap}
 use mathlib.Core.List.{List, [], _∷_, map}
 use Prim.Native.Nat.{ℕ, suc}

@@ -36,7 +36,7 @@ neighbours front a b rest = any-order (behind front)
     behind [] = exchange a b rest
     behind (c ∷ front) = keep c (behind front)
 
--- the ride P8 of document 01: form 2, degrees (1,1), path (0,1024), (1024,0)
+-- the ride P8 of 01 (rule Worked rides): form 2, degrees (1,1), path (0,1024), (1024,0)
 unfoldable pub crossed : Request
 crossed = record {
   head = record { form = 2; first = 1; second = 1; N = 1 };

@@ -1,4 +1,4 @@
--- "The composed net": the literal sum over all choices (document 000, equation 8; document 004, Corollary 1), the exact
+-- Rule Composed net: the literal sum over all choices (document 000, equation 8; document 004, Corollary 1), the exact
 -- point's denominator and the rounded point. Assumes nothing.
 use mathlib.Core.Bool.{cond}
 use mathlib.Core.List.{List, [], _∷_, _++_, map}

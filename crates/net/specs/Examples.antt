@@ -1,4 +1,4 @@
--- Worked orders: document 01's "Order of the numbers" written out for small nets whose values name their places, and one
+-- Worked orders: 01's order (rule Order of the numbers) written out for small nets whose values name their places, and one
 -- argument of each kind taken from them. Only what is in the list says where a number stands. Assumes nothing.
 use mathlib.Core.Path.{_≡_, refl}
 use mathlib.Core.List.{List, [], _∷_, map}

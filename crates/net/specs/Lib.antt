@@ -1,5 +1,5 @@
--- Document 01's nets: the order of the numbers, the blossom, scaled, the composed net and its reading at a moment, as
--- definitions that compute. Assumes nothing.
+-- 01's nets (from rule Order of the numbers on): their order, the blossom, scaled, the composed net and its reading at a moment,
+-- as definitions that compute. Assumes nothing.
 pub mod Net
 pub mod Blossom
 pub mod Composed

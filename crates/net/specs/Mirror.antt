@@ -1,4 +1,4 @@
--- "Port and starboard must mirror" (02, ticket 2). Assumes nothing.
+-- "Port and starboard must mirror" (rule Port and starboard; 02, ticket 2). Assumes nothing.
 use mathlib.Core.List.{map}
 use lib.IntN.{negℤ}
 use Rattle.request.specs.Request.{Request}

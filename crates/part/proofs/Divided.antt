@@ -1,6 +1,6 @@
--- "Each is the blossom value without its binomial": document 01's numerator at R is binomial(L, R) times the one blossom value at
--- m − R times the first path number and R times the second, since all choices with the sum R take the same arguments in another
--- order. Assumes nothing.
+-- "Each is the blossom value without its binomial": 01's numerator at R (rule Composed net) is binomial(L, R) times the one
+-- blossom value at m − R times the first path number and R times the second, since all choices with the sum R take the same
+-- arguments in another order. Assumes nothing.
 use mathlib.Core.Path.{_≡_, refl, sym, ap, _∙_}
 use mathlib.Core.List.{List, map}
 use Prim.Native.Nat.{ℕ, zero, suc, _+_, _-_, _*_, _/_, _≤_, _<_}
@@ -143,7 +143,7 @@ module _ (A : ℕ → Argument) where
       ∙ sym (⊕-⊗ (pos (choose l (suc R))) (pos (choose l R)) v)
       ∙ ap (λ c. c ⊗ v) (⊕-comm (pos (choose l (suc R))) (pos (choose l R)) ∙ sym (pos-add (choose l R) (choose l (suc R))) ∙ ap pos (sym (choose-pascal l R)))
 
--- ---- in document 01's own words: of a part's request
+-- ---- in 01's own words (rule Composed net): of a part's request
 module _ (m : ℕ) (surface : List ℤ) where
   -- "the numerator is binomial(L, R) times one blossom value"
   pub one-value : (part : Part) (R : ℕ) → R ≤ longest (headOf m part)

@@ -1,5 +1,5 @@
--- Ticket 11's answer for every degree, surface and part: number, place, count, and the bits of five numerators. The contract of
--- `card::drive`. Assumes nothing.
+-- The answer of ticket 11 (rule Part of a curve) for every degree, surface and part: number, place, count, and the bits of five
+-- numerators. The contract of `card::drive`. Assumes nothing.
 use mathlib.Core.Path.{_≡_}
 use mathlib.Core.Bool.{cond}
 use mathlib.Core.List.{List, [], _∷_, map}
@@ -19,8 +19,8 @@ use Rattle.part.specs.declared.Part.{Part}
 use Rattle.part.specs.declared.Card.{Card}
 use Rattle.part.specs.Part.{requestOf}
 
--- "Degree, count and value refusals come first, in 01's order", then PARAMETER "with the place of the first bad one, 0 or 1";
--- "The card has no age", and it lends its own room
+-- "Degree, count and value refusals come first, in 01's order" (rule Refusals), then PARAMETER "with the place of the first bad
+-- one, 0 or 1"; "The card has no age", and it lends its own room
 unfoldable pub refusals : Request → List Test
 refusals rq =
     test 2 (notDegree (rq .head)) 0

@@ -1,5 +1,5 @@
 -- Worked parts through the definitions: two lines and a stay without symmetry, with small path numbers, minus zero, and
--- each refusal before those that come after it. Numerators by document 01's sum, reckoned elsewhere; f64 by their bits.
+-- each refusal before those that come after it. Numerators by 01's sum (rule Composed net), reckoned elsewhere; f64 by their bits.
 -- Assumes nothing.
 use mathlib.Core.Path.{_≡_, refl}
 use mathlib.Core.List.{List, [], _∷_, map}

@@ -1,5 +1,5 @@
-// A part of a curve and the record that the f64 card answers to it (02, ticket 11): the two types, by value. What the answer is
-// stands in specs/, what is true of it in proofs/; crate `card` works it out. No code here.
+// A part of a curve and the record that the f64 card answers to it (rule Part of a curve; 02, ticket 11): the two types, by value.
+// What the answer is stands in specs/, what is true of it in proofs/; crate `card` works it out. No code here.
 
 // A part of a curve: a stay at one path number, or a line between two.
 pub enum Part {
@@ -7,7 +7,7 @@ pub enum Part {
     Line(f64, f64),
 }
 
-// number and place as document 01 has them; how many numerators there are, and the numerators: plus zero where unused.
+// number and place as 01 has them (rule Refusals); how many numerators there are, and the numerators: plus zero where unused.
 pub struct Card {
     pub number: u32,
     pub place: usize,

@@ -1,5 +1,5 @@
-// The seven refusals of a patch (02, ticket 8), tested in their order: `judge` answers a number, a place and a count for every patch
-// and writes nothing. VALUE, PARAMETER and BALANCE are tested by the function that tests them for rides.
+// The seven refusals of a patch (rule Patches on patches; 02, ticket 8), tested in their order: `judge` answers a number, a place
+// and a count for every patch and writes nothing. VALUE, PARAMETER and BALANCE are tested by the function that tests them for rides.
 ghost use mathlib.Core.Path.{_≡_};
 ghost use mathlib.Core.Bool.{_||_};
 ghost use Prim.Native.Nat.{_≤_};

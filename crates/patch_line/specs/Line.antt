@@ -1,5 +1,5 @@
 -- A patch line: `patch n N count value.. count number..` and, if wanted, two rooms, answered by `number place count | numerators | points`,
--- ticket 8's answer in the places that are shown. Assumes nothing.
+-- the answer of ticket 8 (rule Patches on patches) in the places that are shown. Assumes nothing.
 use mathlib.Core.Bool.{Bool}
 use mathlib.Core.List.{List, [], _∷_}
 use Prim.Native.Nat.{ℕ}

@@ -1,4 +1,4 @@
-// A patch line: what it says behind the word `patch`, two degrees, a surface and a path, and its answer line (02, ticket 8).
+// A patch line: what it says behind the word `patch`, two degrees, a surface and a path, and its answer line (rule Patches on patches; 02, ticket 8).
 ghost use Prim.Native.Nat.{_≤_};
 ghost use lib.ListN.{length};
 ghost use Rattle.words.specs.Read.{Inside};

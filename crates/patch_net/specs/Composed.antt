@@ -1,5 +1,5 @@
--- The composed patch: source document 002, theorem 1, as the literal sum over all choices, "multinomials in place of binomials".
--- Assumes nothing.
+-- The composed patch (rule Patches on patches; document 002, theorem 1), as the literal sum over all choices, "multinomials in
+-- place of binomials". Assumes nothing.
 use mathlib.Core.Path.{_≡_, refl}
 use mathlib.Core.Bool.{cond, _&&_}
 use mathlib.Core.List.{List, [], _∷_, map}

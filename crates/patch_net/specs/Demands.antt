@@ -39,8 +39,8 @@ pub record Demand1 (p : Patch) (exact points : List ℤ) (r : Result) : Type 0 w
   pub acceptance : first (refusals p (length exact) (length points)) ≡ none
       → r .answer ≡ record { number = 0; place = 0; count = places (longest p) }
 
--- Demand 2. Each exact numerator is the literal sum (document 002, theorem 1), at its place in 01's triangular order; each point
--- is that over its multinomial times 1024^n, rounded; every later place of both arrays stays.
+-- Demand 2. Each exact numerator is the literal sum (rule Patches on patches; document 002, theorem 1), at its place in the order of 01
+-- (rule Order of the numbers); each point is that over its multinomial times 1024^n, rounded; every later place of both arrays stays.
 pub record Demand2 (p : Patch) (exact points : List ℤ) (r : Result) : Type 0 where
   pub numerators : r .answer .number ≡ 0 → (R : ℕ) → R < places (longest p) → getD (r .exact) R (pos 0) ≡ numerator p (indexAt (longest p) R)
   pub rounded : r .answer .number ≡ 0 → (R : ℕ) → R < places (longest p)

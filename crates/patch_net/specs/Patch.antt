@@ -1,4 +1,4 @@
--- One patch as it is asked, and the order of its numbers: "all nets in 01's triangular order". Assumes nothing.
+-- One patch as it is asked, and the order of its numbers: "all nets in 01's triangular order" (rule Order of the numbers). Assumes nothing.
 use mathlib.Core.Path.{_≡_, refl}
 use mathlib.Core.Bool.{cond}
 use mathlib.Core.List.{List, [], _∷_, _++_}
@@ -39,7 +39,7 @@ pub record Index : Type 0 where
 abbrev pub index : ℕ → ℕ → ℕ → Index
 index i j k = record { i = i; j = j; k = k }
 
--- 01: "i from 0 to n, inside it j from 0 to n − i, k = n − i − j"
+-- Rule Order of the numbers (01): "i from 0 to n, inside it j from 0 to n − i, k = n − i − j"
 unfoldable pub row : ℕ → ℕ → ℕ → List Index
 row i j zero = index i j 0 ∷ []
 row i j (suc k) = index i j (suc k) ∷ row i (suc j) k

@@ -28,7 +28,7 @@ fn less(x: usize) -> usize
     x - 1
 }
 
-// The index after it in 01's triangular order: j is one more, or a row ends.
+// The index after it in 01's triangular order (rule Order of the numbers): j is one more, or a row ends.
 pub fn next(at: Place) -> Place
     requires { ⌜ whole at ≤ mostLongest ⌝ }
     ensures { λ r. ⌜ indexOf r ≡ nextOf (indexOf at) ⌝ }

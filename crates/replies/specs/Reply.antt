@@ -1,4 +1,4 @@
--- The reply record of ticket 1, the room that the longest one needs, and what writing it leaves of a slice. Assumes nothing.
+-- The reply record of ticket 1 (rule Records), the room that the longest one needs, and what writing it leaves of a slice. Assumes nothing.
 use mathlib.Core.List.{List, [], _∷_, _++_}
 use Prim.Native.Nat.{ℕ, _+_, _*_}
 use lib.IntN.{ℤ}
@@ -18,7 +18,7 @@ answerBytes a = a .number ∷ a .place ∷ a .count ∷ 0 ∷ []
 unfoldable pub replyRecord : Answer → List ℤ → List ℕ
 replyRecord a points = recordOf replyKind (answerBytes a ++ numberBytes points)
 
--- "At the door the reply room is 58 bytes" (02, ticket 6): 8 and two for each of the most points
+-- "At the door the reply room is 58 bytes" (rule Reply room; 02, ticket 6): 8 and two for each of the most points
 abbrev pub room : ℕ
 room = start + 2 * mostPoints
 

@@ -1,4 +1,4 @@
--- The answer line of a request: document 01's answer to it, in the places that are shown. Assumes nothing.
+-- The answer line of a request: 01's answer to it (rule Request line), in the places that are shown. Assumes nothing.
 use mathlib.Core.Bool.{Bool}
 use mathlib.Core.List.{List}
 use Prim.Native.Nat.{ℕ, _≤_}

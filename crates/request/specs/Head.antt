@@ -5,7 +5,7 @@ use Prim.Native.Nat.{ℕ, _+_, _*_, _/_}
 use lib.Dec.{eqb}
 use Rattle.request.specs.declared.Head.{Head}
 
--- "r is 0 to 4" (01); "N up to 6" (02, ticket 6)
+-- rule Forms and degrees: "r is 0 to 4" (01); "N up to 6" (02, ticket 6)
 abbrev pub mostDegree : ℕ
 mostDegree = 4
 

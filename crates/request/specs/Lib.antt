@@ -1,4 +1,4 @@
--- Document 01's request and what is answered to it, as definitions that compute. Assumes nothing.
+-- 01's request (rule Forms and degrees) and what is answered to it (rule Refusals), as definitions that compute. Assumes nothing.
 pub mod Head
 pub mod Request
 pub mod Cascade

@@ -1,5 +1,5 @@
--- "The eight refusals, tested in this order", and ticket 3's ninth: each test by itself, then all of them as one table, and
--- the answer. Degrees are whole numbers here, so no sum wraps, however large. Assumes nothing.
+-- Rule Refusals: "The eight refusals, tested in this order" (01), and ticket 3's ninth: each test by itself, then all of them as
+-- one table, and the answer. Degrees are whole numbers here, so no sum wraps, however large. Assumes nothing.
 use mathlib.Core.Bool.{Bool, false, not, cond, _||_}
 use mathlib.Core.List.{List, [], _∷_}
 use Prim.Native.Nat.{ℕ, zero, suc, _+_, _*_}
@@ -23,7 +23,7 @@ least (suc n) bad = cond (bad zero) zero (suc (least n (λ k. bad (suc k))))
 unfoldable pub notKind : Head → Bool
 notKind h = not (eqb (h .form) 1 || eqb (h .form) 2 || eqb (h .form) 3)
 
--- 2 DEGREE: "r above 4, N above 3 (6 since ticket 6), or a second degree other than 0 in forms 1 and 3"
+-- 2 DEGREE (rule Refusals): "r above 4, N above 3 (6 since ticket 6), or a second degree other than 0 in forms 1 and 3"
 unfoldable pub notDegree : Head → Bool
 notDegree h = ltb mostDegree (degree h) || ltb mostN (h .N) || byForm h (not (eqb (h .second) 0)) false (not (eqb (h .second) 0))
 
@@ -35,7 +35,7 @@ notSurface rq = not (eqb (length (rq .surface)) (surfaceCount (rq .head)))
 unfoldable pub notPath : Request → Bool
 notPath rq = not (eqb (length (rq .path)) (pathCount (rq .head)))
 
--- 5 ROOM: "ROOM asks for L+1 places in each of the three" output arrays (02, ticket 6)
+-- 5 ROOM: "ROOM asks for L+1 places in each of the three" output arrays (rule Refusals; 02, ticket 6)
 unfoldable pub notRoom : Head → Rooms → Bool
 notRoom h rooms = ltb (rooms .high) (longest h + 1) || ltb (rooms .low) (longest h + 1) || ltb (rooms .points) (longest h + 1)
 
@@ -76,7 +76,7 @@ unfoldable pub accepted : Head → Answer
 accepted h = record { number = 0; place = 0; count = longest h + 1 }
 
 -- the table, for the age of the tilt sample and the three rooms: "For 6 and 7 the place is the least index in its input array;
--- for 8 it is the least point number; otherwise 0." 10 STALE "stands right after DEGREE" (02, ticket 3)
+-- for 8 it is the least point number; otherwise 0." 10 STALE "stands right after DEGREE" (rule Refusals; 02, ticket 3)
 unfoldable pub refusals : Request → ℕ → Rooms → List Test
 refusals rq age rooms =
     test 1 (notKind (rq .head)) 0

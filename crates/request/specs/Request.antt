@@ -1,4 +1,4 @@
--- One request, as document 01 has it. Assumes nothing.
+-- One request, as 01 has it (rule Forms and degrees). Assumes nothing.
 use mathlib.Core.List.{List}
 use lib.IntN.{ℤ}
 use Rattle.request.specs.declared.Head.{Head}

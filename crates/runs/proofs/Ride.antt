@@ -1,5 +1,5 @@
--- Document 01's literal sum is a walk over the ride's terms: one group of arguments in forms 1 and 3; in form 2 the u arguments,
--- and where they are used up the v arguments, with the run begun anew. Assumes nothing.
+-- 01's literal sum (rule Composed net) is a walk over the ride's terms: one group of arguments in forms 1 and 3; in form 2 the u
+-- arguments, and where they are used up the v arguments, with the run begun anew. Assumes nothing.
 use mathlib.Core.Path.{_≡_, sym, _∙_, ap}
 use mathlib.Core.List.{List, [], _++_, map}
 use Prim.Native.Nat.{ℕ, zero, suc, _+_}
@@ -83,7 +83,7 @@ module _ (N R : ℕ) (u v : ℕ → Argument) (m : ℕ) where
       both-chosen l 0 p ∙ sym (walk-chosen (pathTerms N u) l later 0 p)
       ∙ (λ t. walk (pathTerms N u) l l (λ s p. sym (walk-chosen (pathTerms N v) m (leaf R) s p) t) 0 p)
 
--- ---- document 01's numerator, form by form
+-- ---- 01's numerator (rule Composed net), form by form
 module _ (rq : Request) (R : ℕ) where
   abbrev h : Head
   h = rq .head

@@ -1,4 +1,4 @@
--- The entries of the tree are document 001's formula 8. Assumes nothing.
+-- The entries of the tree are those of document 001's formula 8 (rule Counting). Assumes nothing.
 use mathlib.Core.Path.{_≡_, refl, sym, ap₂}
 use mathlib.Core.List.{List, [], _∷_}
 use lib.ListN.{length}

@@ -1,6 +1,6 @@
-// Salvaging a torn trace (ticket 13) as its bytes come: what lies ahead in a window of them, of which so much is decided whatever
-// comes behind, and the line of a run of skipped bytes. The caller slides the window over the trace, so that memory does not grow
-// with it. No function that is public asks anything of its caller.
+// Salvaging a torn trace (rule Salvage; 02, ticket 13) as its bytes come: what lies ahead in a window of them, of which so much is
+// decided whatever comes behind, and the line of a run of skipped bytes. The caller slides the window over the trace, so that
+// memory does not grow with it. No function that is public asks anything of its caller.
 ghost use mathlib.Core.Path.{_≡_};
 ghost use mathlib.Core.Bool.{_||_};
 ghost use Prim.Native.Nat.{_+_, _≤_};

@@ -1,4 +1,4 @@
-// The daily sheet's fourteen lines, as bytes in a lent buffer (02, ticket 12). No function that is public asks anything of its caller.
+// The daily sheet's fourteen lines, as bytes in a lent buffer (rule Daily sheet; 02, ticket 12). No function that is public asks anything of its caller.
 ghost use mathlib.Core.Path.{_≡_};
 ghost use Prim.Native.Nat.{_+_, _*_, _≤_};
 ghost use lib.ListN.{length};

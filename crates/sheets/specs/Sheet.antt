@@ -1,5 +1,5 @@
--- The daily sheet "from the recorded replies", of the whole trace, by ticket 12's words. `most` is the greatest length of a record.
--- That it is the fold of its pairs is in proofs/Adding.antt. Assumes nothing.
+-- The daily sheet "from the recorded replies", of the whole trace, by the words of ticket 12 (rule Daily sheet). `most` is the
+-- greatest length of a record. That it is the fold of its pairs is in proofs/Adding.antt. Assumes nothing.
 use mathlib.Core.Bool.{Bool, true, false, not, cond, _&&_, _||_}
 use mathlib.Core.List.{List, [], _∷_, _++_}
 use Prim.Native.Nat.{ℕ, zero, suc, _+_, _*_}
@@ -22,7 +22,7 @@ inTurn f k (suc n) = f k ∷ inTurn f (suc k) n
 
 -- ---- a reply
 
--- "number, place, count, a zero byte, then the rounded points, two bytes signed each" (02, ticket 1)
+-- "number, place, count, a zero byte, then the rounded points, two bytes signed each" (rule Records; 02, ticket 1)
 abbrev pub numberOf : List ℕ → ℕ
 numberOf reply = getD reply 4 0
 

@@ -1,11 +1,10 @@
 -- Laws of a pair in words. Assumes nothing.
-use mathlib.Core.Path.{_≡_, refl, sym, ap, _∙_}
-use mathlib.Core.Bool.{Bool, true, false, cond}
-use mathlib.Core.List.{List, [], _∷_, _++_, append-nil}
+use mathlib.Core.Path.{_≡_, ap}
+use mathlib.Core.Bool.{Bool, true, false}
+use mathlib.Core.List.{List, [], _++_, append-nil}
 use Prim.Native.Nat.{ℕ, suc, _+_, _*_, _-_, _≤_, _<_, max}
 use native.Mathlib.Numerals.{add-one}
 use native.Mathlib.Omega.{arith}
-use lib.Dec.{eqb, ltb}
 use lib.ListN.{length, getD, drop, drop-of-length-le}
 use lib.Seq.{drop-cons}
 use lib.IntN.{ℤ}
@@ -16,13 +15,12 @@ use Rattle.request.specs.Refusal.{notKind, notDegree}
 use Rattle.wire.specs.Words.{wordAt, signed, numberAt}
 use Rattle.wire.specs.Start.{kindField, start}
 use Rattle.judgement.specs.Record.{requestKind, agedKind, agedStart, headIn, pathStart, bodyEnd}
-use Rattle.judgement.proofs.Sizes.{surface-most, path-most}
 use Rattle.replies.specs.Reply.{replyKind}
 use Rattle.page.specs.Page.{counted, numbered, hexed, byteShown}
 use Rattle.page.proofs.Putting.{Onward, onward-none}
 use Rattle.entries.specs.Entry.{firstDifference}
-use Rattle.shown.specs.Text.{newline, blank, bar, dash, requestIs, bytesKind, formIs, degreesAre, NIs, ageIs, milliseconds, noAge, tooShort, noRequest}
-use Rattle.shown.specs.Text.{noForm, noDegree, otherBody, bytesAre, replyIs, sizes, kinds, barKind, answersAre, placesAre, countsAre}
+use Rattle.shown.specs.Text.{newline, blank, dash, requestIs, bytesKind, formIs, degreesAre, NIs, ageIs, milliseconds, noAge, tooShort, noRequest}
+use Rattle.shown.specs.Text.{noForm, noDegree, otherBody, bytesAre, replyIs, sizes, kinds, barKind, placesAre, countsAre}
 use Rattle.shown.specs.Text.{accepted, noReply, theSame, closeMark, emptyMark}
 use Rattle.shown.specs.Asked.{headText, numbersText, listsText, bodyText, wishText, plainText, agedText, kindText, bytesText, requestText}
 use Rattle.shown.specs.Replied.{pointCount, refusalText, answerText, answersText, bothText, headsText, placesText, pointText, rowText, rowsText, tableText}

@@ -1,7 +1,6 @@
 -- The page that README shows, worked through the definitions. Assumes nothing.
 use mathlib.Core.Path.{_≡_, refl}
-use mathlib.Core.List.{List, [], _∷_}
-use Prim.Native.Nat.{ℕ}
+use mathlib.Core.List.{[], _∷_}
 use Rattle.request.specs.Head.{byForm, surfaceCount, pathCount, numbers, degree}
 use Rattle.request.specs.Refusal.{notKind, notDegree}
 use Rattle.wire.specs.Words.{wordAt, signed, numberAt}

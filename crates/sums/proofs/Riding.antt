@@ -1,5 +1,5 @@
--- A ride from its table and its surface to its numerators: the sum may begin, what it owes is document 01's literal sum, and what
--- it leaves is far below 2^63 in every limb. Assumes nothing.
+-- A ride from its table and its surface to its numerators: the sum may begin, what it owes is 01's literal sum (rule Composed
+-- net), and what it leaves is far below 2^63 in every limb. Assumes nothing.
 use mathlib.Core.Path.{_≡_, refl, sym, _∙_, ap, ap₂, subst}
 use mathlib.Core.Bool.{true, false, _||_, true≢false}
 use mathlib.Core.List.{List, _∷_}

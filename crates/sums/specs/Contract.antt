@@ -21,7 +21,7 @@ pub record Summed (rq : Request) (sums : List ℤ) : Type 0 where
   pub each : (R : ℕ) → worth sums R ≡ numerator rq R
   pub small : (k : ℕ) → natAbs (getD sums k (pos 0)) ≤ 2 ^ 56
 
--- forms 1 and 3: as many entries were formed as the tree of runs has (02, ticket 7)
+-- forms 1 and 3: as many entries were formed as the tree of runs has (rule Counting; 02, ticket 7)
 pub record Formed (h : Head) (n : ℕ) : Type 0 where
   pub curve : h .form ≡ 1 → n ≡ entries 1 (tree (degree h) 0 (h .N + 1))
   pub triangle : (h .form ≡ 1 → ⊥) → (h .form ≡ 2 → ⊥) → n ≡ entries 2 (tree (degree h) 0 (h .N + 1))

@@ -206,7 +206,7 @@ fn flat(head: Head) -> bool
     head.form == 2
 }
 
-// The exact numerators of a request that document 01 accepts, added to places that are 0: the entries that were formed for it.
+// The exact numerators (rule Composed net) of a request that 01 accepts, added to places that are 0: the entries that were formed for it.
 pub fn numerators(head: Head, surface: &[i32], path: &[i32], sums: &mut [i64]) -> u64
     requires { ⌜ Composable (record { head = head; surface = now surface; path = now path }) × (now sums ≡ replicate (2 * places) (pos 0)) ⌝ }
     ensures { λ n. ⌜ Summed (record { head = head; surface = now (surface .entry); path = now (path .entry) }) (now (sums .exit)) × Formed head n ⌝ }

@@ -1,5 +1,5 @@
--- "All control values negated, all points negated" (02, ticket 2), and so is a reading of them: the same number and place, the
--- reading negated. Assumes nothing.
+-- "All control values negated, all points negated" (rule Port and starboard; 02, ticket 2), and so is a reading of them: the same
+-- number and place, the reading negated. Assumes nothing.
 use mathlib.Core.Path.{_≡_, refl, ap, ap₂, _∙_}
 use mathlib.Core.Bool.{Bool, true, false, cond}
 use mathlib.Core.List.{List, [], _∷_, map}

@@ -1,5 +1,5 @@
--- 02, ticket 9: "read the curve at k/1024. Carry values in 1/65,536 of a unit; each de Casteljau step rounds to the nearest,
--- halves away from zero." The whole reading, step by step, on lists. Assumes nothing.
+-- Rule Reading at a tick (02, ticket 9): "read the curve at k/1024. Carry values in 1/65,536 of a unit; each de Casteljau step
+-- rounds to the nearest, halves away from zero." The whole reading, step by step, on lists. Assumes nothing.
 use mathlib.Core.List.{List, [], _∷_, map}
 use Prim.Native.Nat.{ℕ, zero, suc, _-_}
 use lib.IntN.{ℤ, pos, _+ℤ_, _*ℤ_}

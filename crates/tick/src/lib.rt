@@ -1,5 +1,5 @@
-// The curve of a composed net, read at a tick (02, ticket 9): de Casteljau's steps on values of 1/65,536 of a unit, each
-// rounded. A net and a moment are judged first; whatever they are, there is an answer.
+// The curve of a composed net, read at a tick (rule Reading at a tick; 02, ticket 9): de Casteljau's steps on values of 1/65,536
+// of a unit, each rounded. A net and a moment are judged first; whatever they are, there is an answer.
 ghost use mathlib.Core.Path.{_≡_};
 ghost use mathlib.Core.List.{map};
 ghost use Prim.Native.Nat.{_+_, _*_, _/_, _≤_, _<_};

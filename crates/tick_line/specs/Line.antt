@@ -1,5 +1,5 @@
 -- A tick line: `tick count point.. k`, answered by `number place reading`, the reading of the curve of the points at k/1024 as
--- ticket 9 has it, or its refusal. Assumes nothing.
+-- ticket 9 has it (rule Reading at a tick), or its refusal. Assumes nothing.
 use mathlib.Core.List.{List, [], _∷_}
 use Prim.Native.Nat.{ℕ}
 use lib.IntN.{ℤ}

@@ -1,5 +1,5 @@
 // A tick line: what it says behind the word `tick`, a net of points and k, and its answer line, the reading of the curve at k/1024
-// (02, ticket 9).
+// (rule Reading at a tick; 02, ticket 9).
 ghost use mathlib.Core.Path.{_≡_};
 ghost use Prim.Native.Nat.{_≤_};
 ghost use lib.ListN.{length};

@@ -1,4 +1,4 @@
--- What ticket 13 demands of the salvage, over any door and any greatest length of a record. Assumes nothing.
+-- What ticket 13 (rule Salvage) demands of the salvage, over any door and any greatest length of a record. Assumes nothing.
 use mathlib.Core.Path.{_≡_, refl, sym, _∙_}
 use mathlib.Core.Bool.{true}
 use mathlib.Core.List.{List, [], _∷_, map, append-nil}

@@ -1,6 +1,6 @@
 -- "From offset 0: if a request of kind 0x0001 or 0x0002 and its reply start here, each [..] whole, and the door today answers that
--- reply byte for byte, keep both and go past them; else skip one byte" (02, ticket 13). Over any door and the greatest length
--- of a record. Theorems in proofs/Promises.antt. Assumes nothing.
+-- reply byte for byte, keep both and go past them; else skip one byte" (rule Salvage; 02, ticket 13). Over any door and the
+-- greatest length of a record. Theorems in proofs/Promises.antt. Assumes nothing.
 use mathlib.Core.Bool.{Bool, true, cond, _&&_, _||_}
 use mathlib.Core.List.{List, [], _∷_, _++_}
 use Prim.Native.Nat.{ℕ, zero, suc, _+_, _-_, _≤_, _<_}

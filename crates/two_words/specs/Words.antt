@@ -1,5 +1,5 @@
--- A whole number by two words: "a signed high word and an unsigned low word, worth high·2^64 + low" (02, ticket 6). The words
--- are defined for every whole number; that no other two are worth it is `words-only` in proofs/Only.antt. Assumes nothing.
+-- A whole number by two words: "a signed high word and an unsigned low word, worth high·2^64 + low" (rule Two words; 02, ticket 6).
+-- The words are defined for every whole number; that no other two are worth it is `words-only` in proofs/Only.antt. Assumes nothing.
 use mathlib.Core.Path.{_≡_, refl}
 use mathlib.Core.List.{List, [], _∷_, map}
 use Prim.Native.Nat.{ℕ, _+_, _*_, _-_, _/_, _%_, _^_, _≤_, _<_}

@@ -17,7 +17,7 @@ most = 4096
 abbrev pub oldest : ℕ
 oldest = 250
 
--- 02, ticket 3: "age above 250", in milliseconds
+-- rule Refusals (02, ticket 3): "age above 250", in milliseconds
 unfoldable pub stale : ℕ → Bool
 stale age = ltb oldest age
 

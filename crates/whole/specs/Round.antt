@@ -1,5 +1,5 @@
--- Rounding a fraction of whole numbers. "Rounded point: the nearest whole number" (01); "A half goes away from zero" (02,
--- ticket 2), so that a number and its negative are rounded alike: the size is rounded, and the sign stays. Assumes nothing.
+-- Rounding a fraction of whole numbers. "Rounded point: the nearest whole number" (01); "A half goes away from zero" (rule Halves;
+-- 02, ticket 2), so that a number and its negative are rounded alike: the size is rounded, and the sign stays. Assumes nothing.
 use mathlib.Core.Path.{_≡_}
 use Prim.Native.Nat.{ℕ, zero, suc, _+_, _*_, _/_, _≤_, _<_}
 use lib.IntN.{ℤ, pos, negsuc, negℤ, natAbs}

@@ -1,5 +1,5 @@
 -- How a record starts: "A record starts with its length in two bytes, then a two-byte kind, all little-endian; the length
--- counts the whole record" (02, ticket 1); and when a whole record starts at the front of some bytes. Assumes nothing.
+-- counts the whole record" (rule Records; 02, ticket 1); and when a whole record starts at the front of some bytes. Assumes nothing.
 use mathlib.Core.Bool.{Bool, _&&_}
 use mathlib.Core.List.{List, _++_}
 use Prim.Native.Nat.{ℕ, _+_}

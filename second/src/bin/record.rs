@@ -2,8 +2,8 @@
 //!
 //! COUNT pairs of request and reply go to the file OUT, some of the replies
 //! wrong on purpose; with `torn` there is a torn tail besides, and with `former`
-//! it is a trace of before ticket 10. The five lines that a replay must write
-//! go to standard output: they are known from the recording, without a replay.
+//! it is a trace of before ticket 10 (rule Old traces). The five lines that a replay must
+//! write go to standard output: they are known from the recording, without a replay.
 
 use second::edition::{LONG, TODAY};
 use second::replay::lines;

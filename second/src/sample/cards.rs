@@ -1,4 +1,4 @@
-//! Random parts for the card of ticket 11, the same for the same seed.
+//! Random parts for the card of ticket 11 (rule Part of a curve), the same for the same seed.
 
 use crate::card::Part;
 use crate::quantity::REACH;

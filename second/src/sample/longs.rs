@@ -1,4 +1,4 @@
-//! Random requests with three rooms, for ticket 6, the same for the same seed.
+//! Random requests with three rooms, for ticket 6 (rule Two words), the same for the same seed.
 
 use super::Sampler;
 use crate::line::{read, Asked, OWN_ROOM};

@@ -1,4 +1,4 @@
-//! Random patches of every kind, for ticket 8, the same for the same seed.
+//! Random patches of every kind, for ticket 8 (rule Patches on patches), the same for the same seed.
 
 use crate::patch::indices;
 use crate::quantity::{REACH, SCALE};

@@ -1,4 +1,4 @@
-//! Random nets and moments, for ticket 9, the same for the same seed.
+//! Random nets and moments, for ticket 9 (rule Reading at a tick), the same for the same seed.
 
 use crate::quantity::REACH;
 use crate::xorshift::Xorshift;

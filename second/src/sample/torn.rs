@@ -1,5 +1,5 @@
-//! Random traces for the converter, the sheet and the salvage of tickets 10,
-//! 12 and 13, the same for the same seed.
+//! Random traces for the converter, the sheet and the salvage of tickets 10, 12 and
+//! 13 (rule Old traces, rule Daily sheet, rule Salvage), the same for the same seed.
 
 use super::traces::{Recorder, Traces};
 use crate::edition::{Edition, TODAY};

@@ -1,5 +1,5 @@
 -- `compose::compose` meets its contract: a refusal leaves the three arrays; an acceptance writes the words of the numerators,
--- which are document 01's, and each of them rounded. Assumes nothing.
+-- which are 01's (rule Composed net), and each of them rounded. Assumes nothing.
 use mathlib.Core.Path.{refl, sym, ap, _∙_}
 use borrow.Author.Needs.{needs}
 use Rattle.request.specs.Request.{Request, requestOf}

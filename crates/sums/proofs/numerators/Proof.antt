@@ -1,4 +1,4 @@
--- `sums::numerators` meets its contract: the sum may begin, and what it leaves are document 01's numerators. Assumes nothing.
+-- `sums::numerators` meets its contract: the sum may begin, and what it leaves are 01's numerators (rule Composed net). Assumes nothing.
 use mathlib.Core.Path.{sym, _∙_}
 use native.Mathlib.Omega.{arith}
 use borrow.Author.Needs.{needs}
