@@ -15,8 +15,8 @@ fn say(words: &[u8]) -> u64 {
 }
 
 // The line that is printed, and the verdict.
-fn print(refused: bool, changed: u64, status: u64) -> u64 {
-    let out = renewal::print(refused, changed, files::standard_output());
+fn print(refused: bool, changed: u64, to: Stream, status: u64) -> u64 {
+    let out = renewal::print(refused, changed, to);
     told::written(b"convert", out, status)
 }
 
@@ -59,7 +59,7 @@ fn write_beside(
     if !output::finish(written, to, beside) {
         return trouble(to);
     }
-    print(false, renewed.changed, 0)
+    print(false, renewed.changed, seen.out, 0)
 }
 
 // The same, where OUT can be written.
@@ -105,7 +105,11 @@ pub fn convert(first: usize, second: usize, wanted: bool) -> u64 {
     if stream.failed {
         return trouble(&from[..m]);
     }
-    let seen = renewal::look(stream, files::progress::begin(wanted, stream));
+    let seen = renewal::look(
+        stream,
+        files::standard_output(),
+        files::progress::begin(wanted, stream),
+    );
     let read = seen.input;
     if read.failed {
         let status = trouble(&from[..m]);
@@ -114,7 +118,7 @@ pub fn convert(first: usize, second: usize, wanted: bool) -> u64 {
     }
     files::close(stream);
     if seen.refused {
-        return print(true, seen.changed, 1);
+        return print(true, seen.changed, seen.out, 1);
     }
     write_again(seen, first, second, wanted)
 }

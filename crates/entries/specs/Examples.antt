@@ -1,4 +1,4 @@
--- Lines worked through the definitions: the pair that README shows, replies that differ before their points, and the three ways in
+-- Lines worked through the definitions: the pair that docs/TRACES.md shows, replies that differ before their points, and the three ways in
 -- which a reading ends. Assumes nothing.
 use mathlib.Core.Path.{_≡_, refl}
 use mathlib.Core.List.{List, [], _∷_, _++_}
@@ -30,34 +30,41 @@ unfoldable pub replied : ℕ → ℕ → ℕ → ℕ → ℕ → List ℕ
 replied size kind number place count = size ∷ 0 ∷ kind ∷ 128 ∷ number ∷ place ∷ count ∷ 0 ∷ []
 
 -- the kind comes before all else, then the number, the place, the count and the length
-pub kinds-differ : whatDiffers (replied 8 1 6 2 0) (replied 10 2 7 3 1) ≡ 107 ∷ 105 ∷ 110 ∷ 100 ∷ 32 ∷ 48 ∷ 120 ∷ 56 ∷ 48 ∷ 48 ∷ 49 ∷ 44 ∷ 32 ∷ 116 ∷ 111 ∷ 100 ∷ 97 ∷ 121 ∷ 32 ∷ 48 ∷ 120 ∷ 56 ∷ 48 ∷ 48
+pub kinds-differ : whatDiffers (replied 8 1 6 2 0) (replied 10 2 7 3 1)
+    ≡ 107 ∷ 105 ∷ 110 ∷ 100 ∷ 32 ∷ 48 ∷ 120 ∷ 56 ∷ 48 ∷ 48 ∷ 49 ∷ 44 ∷ 32 ∷ 116 ∷ 111 ∷ 100 ∷ 97 ∷ 121 ∷ 32 ∷ 48 ∷ 120 ∷ 56 ∷ 48 ∷ 48
     ∷ 50 ∷ []
 unfolding whatDiffers replied kindChange kindField wordAt hexed hexDigit
 kinds-differ = refl
 
-pub numbers-differ : whatDiffers (replied 8 1 6 2 0) (replied 10 1 7 3 1) ≡ 110 ∷ 117 ∷ 109 ∷ 98 ∷ 101 ∷ 114 ∷ 32 ∷ 54 ∷ 44 ∷ 32 ∷ 116 ∷ 111 ∷ 100 ∷ 97 ∷ 121 ∷ 32 ∷ 55 ∷ []
+pub numbers-differ : whatDiffers (replied 8 1 6 2 0) (replied 10 1 7 3 1)
+    ≡ 110 ∷ 117 ∷ 109 ∷ 98 ∷ 101 ∷ 114 ∷ 32 ∷ 54 ∷ 44 ∷ 32 ∷ 116 ∷ 111 ∷ 100 ∷ 97 ∷ 121 ∷ 32 ∷ 55 ∷ []
 unfolding whatDiffers replied changeOf kindField wordAt counted digits digitsOf
 numbers-differ = refl
 
-pub places-differ : whatDiffers (replied 8 1 6 2 0) (replied 10 1 6 13 1) ≡ 112 ∷ 108 ∷ 97 ∷ 99 ∷ 101 ∷ 32 ∷ 50 ∷ 44 ∷ 32 ∷ 116 ∷ 111 ∷ 100 ∷ 97 ∷ 121 ∷ 32 ∷ 49 ∷ 51 ∷ []
+pub places-differ : whatDiffers (replied 8 1 6 2 0) (replied 10 1 6 13 1)
+    ≡ 112 ∷ 108 ∷ 97 ∷ 99 ∷ 101 ∷ 32 ∷ 50 ∷ 44 ∷ 32 ∷ 116 ∷ 111 ∷ 100 ∷ 97 ∷ 121 ∷ 32 ∷ 49 ∷ 51 ∷ []
 unfolding whatDiffers replied changeOf kindField wordAt counted digits digitsOf
 places-differ = refl
 
-pub counts-differ : whatDiffers (replied 8 1 0 0 5) (replied 10 1 0 0 4) ≡ 99 ∷ 111 ∷ 117 ∷ 110 ∷ 116 ∷ 32 ∷ 53 ∷ 44 ∷ 32 ∷ 116 ∷ 111 ∷ 100 ∷ 97 ∷ 121 ∷ 32 ∷ 52 ∷ []
+pub counts-differ : whatDiffers (replied 8 1 0 0 5) (replied 10 1 0 0 4)
+    ≡ 99 ∷ 111 ∷ 117 ∷ 110 ∷ 116 ∷ 32 ∷ 53 ∷ 44 ∷ 32 ∷ 116 ∷ 111 ∷ 100 ∷ 97 ∷ 121 ∷ 32 ∷ 52 ∷ []
 unfolding whatDiffers replied changeOf kindField wordAt counted digits digitsOf
 counts-differ = refl
 
-pub lengths-differ : whatDiffers (replied 8 1 0 0 1) (replied 10 1 0 0 1 ++ 0 ∷ 0 ∷ []) ≡ 108 ∷ 101 ∷ 110 ∷ 103 ∷ 116 ∷ 104 ∷ 32 ∷ 56 ∷ 44 ∷ 32 ∷ 116 ∷ 111 ∷ 100 ∷ 97 ∷ 121 ∷ 32 ∷ 49 ∷ 48 ∷ []
+pub lengths-differ : whatDiffers (replied 8 1 0 0 1) (replied 10 1 0 0 1 ++ 0 ∷ 0 ∷ [])
+    ≡ 108 ∷ 101 ∷ 110 ∷ 103 ∷ 116 ∷ 104 ∷ 32 ∷ 56 ∷ 44 ∷ 32 ∷ 116 ∷ 111 ∷ 100 ∷ 97 ∷ 121 ∷ 32 ∷ 49 ∷ 48 ∷ []
 unfolding whatDiffers replied behindChange changeOf kindField wordAt counted digits digitsOf
 lengths-differ = refl
 
 -- `length 7 at byte 746`; behind a whole record likewise; `cut off at byte 730, in the pair that begins at byte 712`; `the trace ends at
 -- byte 712`
-pub seven : endingLine 746 3 (7 ∷ 0 ∷ 1 ∷ []) ≡ 108 ∷ 101 ∷ 110 ∷ 103 ∷ 116 ∷ 104 ∷ 32 ∷ 55 ∷ 32 ∷ 97 ∷ 116 ∷ 32 ∷ 98 ∷ 121 ∷ 116 ∷ 101 ∷ 32 ∷ 55 ∷ 52 ∷ 54 ∷ 10 ∷ []
+pub seven : endingLine 746 3 (7 ∷ 0 ∷ 1 ∷ [])
+    ≡ 108 ∷ 101 ∷ 110 ∷ 103 ∷ 116 ∷ 104 ∷ 32 ∷ 55 ∷ 32 ∷ 97 ∷ 116 ∷ 32 ∷ 98 ∷ 121 ∷ 116 ∷ 101 ∷ 32 ∷ 55 ∷ 52 ∷ 54 ∷ 10 ∷ []
 unfolding endingLine noLength lengthField isLength wordAt counted digits digitsOf
 seven = refl
 
-pub second-seven : endingLine 738 10 (8 ∷ 0 ∷ replicate 6 1 ++ 7 ∷ 0 ∷ []) ≡ 108 ∷ 101 ∷ 110 ∷ 103 ∷ 116 ∷ 104 ∷ 32 ∷ 55 ∷ 32 ∷ 97 ∷ 116 ∷ 32 ∷ 98 ∷ 121 ∷ 116 ∷ 101 ∷ 32 ∷ 55 ∷ 52 ∷ 54 ∷ 10 ∷ []
+pub second-seven : endingLine 738 10 (8 ∷ 0 ∷ replicate 6 1 ++ 7 ∷ 0 ∷ [])
+    ≡ 108 ∷ 101 ∷ 110 ∷ 103 ∷ 116 ∷ 104 ∷ 32 ∷ 55 ∷ 32 ∷ 97 ∷ 116 ∷ 32 ∷ 98 ∷ 121 ∷ 116 ∷ 101 ∷ 32 ∷ 55 ∷ 52 ∷ 54 ∷ 10 ∷ []
 unfolding endingLine secondEnding noLength lengthField isLength behind wordAt counted digits digitsOf
 second-seven = refl
 

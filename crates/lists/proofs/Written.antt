@@ -17,7 +17,7 @@ below-at (suc n) f tail (suc i) d h = below-at n (λ k. f (suc k)) tail i d (le-
 
 pub afterwards-at {ℓ} : {A : Type ℓ} (count : ℕ) (f : ℕ → A) (lent : List A) (i : ℕ) (d : A) → i < count → getD (afterwards count f lent) i d ≡ f i
 unfolding afterwards
-afterwards-at count f lent i d h = below-at count f (drop count lent) i d h
+afterwards-at count f lent i d h = below-at count f _ i d h
 
 -- the places below a number, one more at the end
 below-last {ℓ} : {A : Type ℓ} (n : ℕ) (f : ℕ → A) → listBelow (suc n) f ≡ listBelow n f ++ (f n ∷ [])

@@ -40,7 +40,7 @@ put-parts-more c (p ∷ a) b = rw (put-parts-more (afterPart c p) a b) (simp app
 module _ (wanted : Bool) where
   pub carries-none : (input out : Stream) (c : Converter) → Carries wanted input out c input out c
   unfolding afterAll putParts uncut
-  carries-none input out c = record { parts = []; went = through-none input; after = refl; wrote = λ e. wrote-none out }
+  carries-none input out c = record { parts = []; went = through-none input; after = refl; wrote = λ e. wrote-none out; stayed = λ e. refl }
 
   pub carries-more : {input out input′ out′ input″ out″ : Stream} {c c′ c″ : Converter} → Carries wanted input out c input′ out′ c′
       → Carries wanted input′ out′ c′ input″ out″ c″ → Carries wanted input out c input″ out″ c″
@@ -53,6 +53,7 @@ module _ (wanted : Bool) where
         let more : putParts c (p .parts ++ q .parts) ≡ putParts c (p .parts) ++ putParts c′ (q .parts) =
         put-parts-more c (p .parts) (q .parts) ∙ ap (λ (t : Converter). putParts c (p .parts) ++ putParts t (q .parts)) (sym (p .after)) in
         rw more (wrote-more out (putParts c (p .parts)) out′ (putParts c′ (q .parts)) out″ (p .wrote e) (q .wrote e));
+    stayed = λ e. q .stayed e ∙ p .stayed e;
   }
 
 -- ---- one part
@@ -76,10 +77,16 @@ module _ {c : Converter} (part out : List ℕ) {out′ : List ℕ} {r : Taken} (
 
 module _ (input : Stream) (c : Converter) (input′ : Stream) (c′ : Converter) (part : List ℕ) (t : Through input part input′)
     (e : c′ ≡ afterPart c part) where
-  pub carried-out : (wanted : Bool) (out out′ : Stream) (bytes : List ℕ) → bytes ≡ putAll (feedOf c) part → Wrote out bytes out′
-      → Carries wanted input out c input′ out′ c′
+  pub carried-out : (wanted : Bool) → wanted ≡ true → (out out′ : Stream) (bytes : List ℕ) → bytes ≡ putAll (feedOf c) part
+      → Wrote out bytes out′ → Carries wanted input out c input′ out′ c′
   unfolding afterAll putParts uncut
-  carried-out wanted out out′ bytes b w = record { parts = part ∷ []; went = rw append-nil t; after = e; wrote = λ y. rw (append-nil, ← b) w }
+  carried-out wanted wants out out′ bytes b w = record {
+    parts = part ∷ [];
+    went = rw append-nil t;
+    after = e;
+    wrote = λ y. rw (append-nil, ← b) w;
+    stayed = λ n. absurd (false≢true (sym n ∙ wants));
+  }
 
   pub carried-on : (wanted : Bool) → wanted ≡ false → (out : Stream) → Carries wanted input out c input′ out c′
   unfolding afterAll uncut
@@ -88,6 +95,7 @@ module _ (input : Stream) (c : Converter) (input′ : Stream) (c′ : Converter)
     went = rw append-nil t;
     after = e;
     wrote = λ y. absurd (false≢true (sym plain ∙ y));
+    stayed = λ n. refl;
   }
 
 -- ---- all of them
@@ -103,9 +111,15 @@ module _ {wanted : Bool} {input out input′ out′ : Stream} {first last : Conv
   changed-of : last .changed ≡ capped (changed (uncut (k .parts)))
   changed-of = ap (λ (c : Converter). c .changed) last-is ∙ parts-changed (k .parts)
 
-  pub looked : {r : Bool} → r ≡ endsLong (feedOf last .kept)
-      → Looks input (record { input = input′; refused = r; changed = last .changed })
-  looked e = record { bytes = uncut (k .parts); went = k .went; refused-is = refused-of e; changed-is = changed-of }
+  pub looked : wanted ≡ false → {r : Bool} → r ≡ endsLong (feedOf last .kept)
+      → Looks input out (record { input = input′; out = out′; refused = r; changed = last .changed })
+  looked plain e = record {
+    bytes = uncut (k .parts);
+    went = k .went;
+    stayed = k .stayed plain;
+    refused-is = refused-of e;
+    changed-is = changed-of;
+  }
 
   -- with what is still kept
   pub renewed : wanted ≡ true → {r : Bool} → r ≡ endsLong (feedOf last .kept) → (l l′ : List ℕ) (n : ℕ) (out″ : Stream) → heldRoom ≤ length l

@@ -1,7 +1,8 @@
 -- What carrying a night through the converter promises of the bytes that were read, whatever they are: just these were taken, part
--- after part, and what they put out was written where that is wanted; and what is told is that of all of them. Assumes nothing.
+-- after part, and what they put out was written where that is wanted, and nothing where it is not; and what is told is that of all
+-- of them. Assumes nothing.
 use mathlib.Core.Path.{_≡_}
-use mathlib.Core.Bool.{Bool, true}
+use mathlib.Core.Bool.{Bool, true, false}
 use mathlib.Core.List.{List}
 use Prim.Native.Nat.{ℕ}
 use Rattle.feed.specs.Feed.{capped}
@@ -19,11 +20,13 @@ pub record Carries (wanted : Bool) (input out : Stream) (first : Converter) (inp
   pub went : Through input (uncut parts) input′
   pub after : last ≡ afterAll afterPart first parts
   pub wrote : wanted ≡ true → Wrote out (putParts first parts) out′
+  pub stayed : wanted ≡ false → out′ ≡ out
 
--- a night that was looked through
-pub record Looks (input : Stream) (r : Looked) : Type 0 where
+-- a night that was looked through: "no byte of trace" went to the output
+pub record Looks (input out : Stream) (r : Looked) : Type 0 where
   pub bytes : List ℕ
   pub went : Through input bytes (r .input)
+  pub stayed : r .out ≡ out
   pub refused-is : r .refused ≡ refuses bytes
   pub changed-is : r .changed ≡ capped (changed bytes)
 

@@ -19,14 +19,16 @@ struct Night {
     count: usize,
 }
 
-// The input behind a night, whether it cannot be converted, and how many requests are changed.
+// The input behind a night, the output, to which nothing went, whether the night cannot be converted, and how many requests are
+// changed.
 pub struct Looked {
     pub input: Stream,
+    pub out: Stream,
     pub refused: bool,
     pub changed: u64,
 }
 
-// The same, and the output behind the converted night.
+// The same of a converted night, which went to the output.
 pub struct Renewed {
     pub input: Stream,
     pub out: Stream,
@@ -118,15 +120,15 @@ fn carry_all(
     night
 }
 
-// Looks through a night to its end; nothing is written.
-pub fn look(input: Stream, progress: Progress) -> Looked
-    ensures { λ r. ⌜ Looks input r ⌝ }
+// Looks through a night to its end; nothing is written to the output.
+pub fn look(input: Stream, out: Stream, progress: Progress) -> Looked
+    ensures { λ r. ⌜ Looks input out r ⌝ }
 {
     let mut part = io::large_buffer();
     let mut buffer = [0u8; converter::ROOM];
     let night = carry_all(
         input,
-        files::standard_output(),
+        out,
         converter::new(),
         false,
         progress,
@@ -134,9 +136,11 @@ pub fn look(input: Stream, progress: Progress) -> Looked
         &mut buffer,
     );
     let read = night.input;
+    let lent = night.out;
     let seen = night.converter;
     Looked {
         input: read,
+        out: lent,
         refused: converter::refused(seen),
         changed: seen.changed,
     }

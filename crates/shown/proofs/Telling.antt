@@ -19,8 +19,8 @@ use Rattle.replies.specs.Reply.{replyKind}
 use Rattle.page.specs.Page.{counted, numbered, hexed, byteShown}
 use Rattle.page.proofs.Putting.{Onward, onward-none}
 use Rattle.entries.specs.Entry.{firstDifference}
-use Rattle.shown.specs.Text.{newline, blank, dash, requestIs, bytesKind, formIs, degreesAre, NIs, ageIs, milliseconds, noAge, tooShort, noRequest}
-use Rattle.shown.specs.Text.{noForm, noDegree, otherBody, bytesAre, replyIs, sizes, kinds, barKind, placesAre, countsAre}
+use Rattle.shown.specs.Text.{newline, blank, dash, requestIs, bytesKind, formIs, degreesAre, NIs, ageIs, milliseconds, noAge}
+use Rattle.shown.specs.Text.{tooShort, noRequest, noForm, noDegree, otherBody, bytesAre, replyIs, sizes, kinds, barKind, placesAre, countsAre}
 use Rattle.shown.specs.Text.{accepted, noReply, theSame, closeMark, emptyMark}
 use Rattle.shown.specs.Asked.{headText, numbersText, listsText, bodyText, wishText, plainText, agedText, kindText, bytesText, requestText}
 use Rattle.shown.specs.Replied.{pointCount, refusalText, answerText, answersText, bothText, headsText, placesText, pointText, rowText, rowsText, tableText}

@@ -1,4 +1,4 @@
--- The page that README shows, worked through the definitions. Assumes nothing.
+-- The page that docs/TRACES.md shows, worked through the definitions. Assumes nothing.
 use mathlib.Core.Path.{_≡_, refl}
 use mathlib.Core.List.{[], _∷_}
 use Rattle.request.specs.Head.{byForm, surfaceCount, pathCount, numbers, degree}
@@ -49,7 +49,8 @@ pub shown : shownPage 20 724
     ∷ 32 ∷ 48 ∷ 48 ∷ 32 ∷ 49 ∷ 102 ∷ 32 ∷ 102 ∷ 51 ∷ 32 ∷ 48 ∷ 54 ∷ 32 ∷ 102 ∷ 52 ∷ 32 ∷ 54 ∷ 97 ∷ 32 ∷ 102 ∷ 48 ∷ 32 ∷ 51 ∷ 56 ∷ 91
     ∷ 102 ∷ 50 ∷ 93 ∷ 54 ∷ 97 ∷ 32 ∷ 102 ∷ 48 ∷ 10 ∷ 116 ∷ 104 ∷ 101 ∷ 121 ∷ 32 ∷ 100 ∷ 105 ∷ 102 ∷ 102 ∷ 101 ∷ 114 ∷ 32 ∷ 97 ∷ 116 ∷ 32
     ∷ 98 ∷ 121 ∷ 116 ∷ 101 ∷ 32 ∷ 49 ∷ 53 ∷ 44 ∷ 32 ∷ 99 ∷ 111 ∷ 117 ∷ 110 ∷ 116 ∷ 101 ∷ 100 ∷ 32 ∷ 102 ∷ 114 ∷ 111 ∷ 109 ∷ 32 ∷ 48 ∷ 10 ∷ []
-unfolding shownPage titleOf requestText headText numbersText listsText bodyText wishText agedText kindText bytesText tableText pointCount answerText answersText bothText
+unfolding shownPage titleOf requestText headText numbersText listsText bodyText wishText agedText kindText bytesText tableText pointCount answerText
+    answersText bothText
     headsText placesText pointText rowText rowsText gapOf lastText markedText lineText marksText endText firstDifference kindField wordAt numberAt signed
     counted numbered hexed hexDigit byteShown decimal digits digitsOf headIn pathStart bodyEnd byForm surfaceCount pathCount numbers degree notKind notDegree
 shown = refl

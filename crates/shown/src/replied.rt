@@ -2,7 +2,8 @@
 ghost use mathlib.Core.Path.{_≡_};
 ghost use Prim.Native.Nat.{_<_, max};
 ghost use Rattle.page.specs.Page.{Puts};
-ghost use Rattle.shown.specs.Replied.{pointCount, refusalText, answerText, answersText, bothText, headsText, placesText, pointText, rowText, rowsText, tableText};
+ghost use Rattle.shown.specs.Replied.{pointCount, refusalText, answerText, answersText, bothText};
+ghost use Rattle.shown.specs.Replied.{headsText, placesText, pointText, rowText, rowsText, tableText};
 use page::front;
 use page::put;
 use page::put_hex;

@@ -20,7 +20,8 @@ same-length : tie.Need-same-length
 same-length c = search needs
 
 returns : tie.Need-returns
-returns c = puts-same _ _ _ _ _ _ (c .before .before .put .ensures) (byte-is _ _ _ _ (c .before .before .before .before .before .before .digit .ensures) (c .before .before .before .before .before .digit2 .ensures))
+returns c = puts-same _ _ _ _ _ _ (c .before .before .put .ensures) (byte-is _ _ _ _ (c .before .before .before .before .before .before .digit
+    .ensures) (c .before .before .before .before .before .digit2 .ensures))
 
 pub put-byte-spec : {M : Type 1} → statement M
 put-byte-spec =

@@ -33,7 +33,10 @@ returns : tie.Need-returns
 unfolding hexed
 returns c = puts-then _ _ _ _ _ _ _ _ (c .before .before .before .before .before .before .before .put .ensures)
     (puts-same _ _ _ _ _ _ (c .before .before .put2 .ensures)
-    (digits-are _ _ _ _ _ (c .before .before .before .before .before .before .before .before .before .before .before .before .digit .ensures) (c .before .before .before .before .before .before .before .before .before .before .before .digit2 .ensures) (c .before .before .before .before .before .before .before .before .before .before .digit3 .ensures) (c .before .before .before .before .before .before .before .before .before .digit4 .ensures)))
+    (digits-are _ _ _ _ _ (c .before .before .before .before .before .before .before .before .before .before .before .before .digit .ensures) (c
+    .before .before .before .before .before .before .before .before .before .before .before .digit2 .ensures) (c .before .before .before .before
+    .before .before .before .before .before .before .digit3 .ensures) (c .before .before .before .before .before .before .before .before .before
+    .digit4 .ensures)))
 
 pub put-hex-spec : {M : Type 1} → statement M
 put-hex-spec =

@@ -38,7 +38,7 @@ returns : tie.Need-returns
 returns c =
     carried-out _ _ _ _ _ (c .before .before .before .before .before .before .before .before .before .before .before .before .read .ensures
     .1) (part-after _ _ (simp length-take (omega arith)) (omega arith) (c .before .before .before .before .before .before .take .ensures)) _
-    _ _ _
+    (c .before .before .if1 .taken) _ _ _
     (part-out _ _ (simp length-take (omega arith)) (omega arith) (c .before .before .before .before .before .before .take .ensures)) (c
     .write .ensures)
 

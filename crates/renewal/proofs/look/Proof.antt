@@ -1,4 +1,5 @@
 -- `renewal::look` meets its contract. Assumes nothing.
+use mathlib.Core.Path.{refl}
 use Rattle.renewal.proofs.Carrying.{looked}
 use borrow.Author.Needs.{needs}
 use Rattle.renewal.proofs.look.Statement.{statement}
@@ -6,9 +7,6 @@ use Rattle.renewal.proofs.look.Tie as tie
 
 large-buffer-requires : tie.Need-large-buffer-requires
 large-buffer-requires c κs = search needs
-
-standard-output-requires : tie.Need-standard-output-requires
-standard-output-requires c κs = search needs
 
 new-requires : tie.Need-new-requires
 new-requires c κs = search needs
@@ -26,15 +24,14 @@ refused-requires : tie.Need-refused-requires
 refused-requires c κs = search needs
 
 returns : tie.Need-returns
-returns c = looked (c .before .before .before .before .before .before .before .before .new .ensures) (c .before .before .before .before
-    .before .carry-all .ensures) (c .refused .ensures)
+returns c = looked (c .before .before .before .before .before .before .before .before .before .new .ensures) (c .before .before .before
+    .before .before .before .carry-all .ensures) refl (c .refused .ensures)
 
 pub look-spec : {M : Type 1} → statement M
 look-spec =
     tie.close
     (tie.spec
     large-buffer-requires
-    standard-output-requires
     new-requires
     slice-aggregate-carry-all
     slice-aggregate-carry-all-2

@@ -28,7 +28,11 @@ same-length c = search needs
 
 returns : tie.Need-returns
 unfolding shownPage
-returns c = puts-then _ _ _ _ _ _ _ _ (puts-then _ _ _ _ _ _ _ _ (puts-then _ _ _ _ _ _ _ _ (puts-then _ _ _ _ _ _ _ _ (c .before .before .before .before .before .before .before .before .before .before .before .before .before .before .before .before .before .before .before .put-title .ensures) (c .before .before .before .before .before .before .before .before .before .before .before .before .before .before .put .ensures)) (c .before .before .before .before .before .before .before .before .before .before .put-request .ensures)) (c .before .before .before .before .before .before .put-table .ensures)) (c .before .before .put-end .ensures)
+returns c = puts-then _ _ _ _ _ _ _ _ (puts-then _ _ _ _ _ _ _ _ (puts-then _ _ _ _ _ _ _ _ (puts-then _ _ _ _ _ _ _ _ (c .before .before .before
+    .before .before .before .before .before .before .before .before .before .before .before .before .before .before .before .before .put-title
+    .ensures) (c .before .before .before .before .before .before .before .before .before .before .before .before .before .before .put .ensures)) (c
+    .before .before .before .before .before .before .before .before .before .before .put-request .ensures)) (c .before .before .before .before .before
+    .before .put-table .ensures)) (c .before .before .put-end .ensures)
 
 pub put-page-spec : {M : Type 1} → statement M
 put-page-spec =

@@ -30,7 +30,9 @@ same-length : tie.Need-same-length
 same-length c = search needs
 
 returns : tie.Need-returns
-returns c = puts-same _ _ _ _ _ _ (puts-then _ _ _ _ _ _ _ _ (puts-then _ _ _ _ _ _ _ _ (c .before .before .before .before .before .before .before .before .before .before .before .before .put-natural .ensures) (c .before .before .before .before .before .before .before .put-natural2 .ensures)) (c .before .before .put .ensures))
+returns c = puts-same _ _ _ _ _ _ (puts-then _ _ _ _ _ _ _ _ (puts-then _ _ _ _ _ _ _ _ (c .before .before .before .before .before .before .before
+    .before .before .before .before .before .put-natural .ensures) (c .before .before .before .before .before .before .before .put-natural2 .ensures))
+    (c .before .before .put .ensures))
     (cut-told _ _ _ (c .before .before .before .before .before .before .before .before .before .before .before .before .before .before .sum .ensures))
 
 pub put-cut-spec : {M : Type 1} → statement M

@@ -40,7 +40,9 @@ same-length-3 c = search needs
 
 returns-3 : tie.Need-returns-3
 returns-3 c = puts-same _ _ _ _ _ _ (c .before .before .put-second .ensures)
-    (first-right _ _ _ (c .before .before .before .before .before .before .before .before .if1 .left) (omega arith) _ (c .before .before .before .before .before .before .word-at .ensures .0) _ (c .before .before .before .before .before .is-length .ensures) (c .before .before .before .before .if3 .taken))
+    (first-right _ _ _ (c .before .before .before .before .before .before .before .before .if1 .left) (omega arith) _ (c .before .before .before
+    .before .before .before .word-at .ensures .0) _ (c .before .before .before .before .before .is-length .ensures) (c .before .before .before .before
+    .if3 .taken))
 
 put-length-requires : tie.Need-put-length-requires
 put-length-requires c κs = search needs
@@ -50,7 +52,9 @@ same-length-4 c = search needs
 
 returns-4 : tie.Need-returns-4
 returns-4 c = puts-same _ _ _ _ _ _ (c .before .before .put-length .ensures)
-    (first-wrong _ _ _ (c .before .before .before .before .before .before .before .before .if1 .left) (omega arith) _ (c .before .before .before .before .before .before .word-at .ensures .0) _ (c .before .before .before .before .before .is-length .ensures) (c .before .before .before .before .if3 .left))
+    (first-wrong _ _ _ (c .before .before .before .before .before .before .before .before .if1 .left) (omega arith) _ (c .before .before .before
+    .before .before .before .word-at .ensures .0) _ (c .before .before .before .before .before .is-length .ensures) (c .before .before .before .before
+    .if3 .left))
 
 pub put-ending-spec : {M : Type 1} → statement M
 put-ending-spec =

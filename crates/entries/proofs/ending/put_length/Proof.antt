@@ -28,7 +28,9 @@ same-length c = search needs
 
 returns : tie.Need-returns
 unfolding noLength
-returns c = puts-then _ _ _ _ _ _ _ _ (puts-then _ _ _ _ _ _ _ _ (c .before .before .before .before .before .before .before .before .before .before .before .before .put-natural .ensures) (c .before .before .before .before .before .before .before .put-natural2 .ensures)) (c .before .before .put .ensures)
+returns c = puts-then _ _ _ _ _ _ _ _ (puts-then _ _ _ _ _ _ _ _ (c .before .before .before .before .before .before .before .before .before .before
+    .before .before .put-natural .ensures) (c .before .before .before .before .before .before .before .put-natural2 .ensures)) (c .before .before .put
+    .ensures)
 
 pub put-length-spec : {M : Type 1} → statement M
 put-length-spec =

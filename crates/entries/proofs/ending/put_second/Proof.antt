@@ -39,7 +39,9 @@ same-length-2 c = search needs
 
 returns-2 : tie.Need-returns-2
 returns-2 c = puts-same _ _ _ _ _ _ (c .before .before .put-cut2 .ensures)
-    (in-second _ _ _ _ (c .before .before .before .before .before .before .before .before .before .word-at .ensures .0) (omega arith) _ (rw (c .before .before .before .before .before .before .before .behind .ensures) at (c .before .before .before .before .before .before .word-at2 .ensures .0)) _ (c .before .before .before .before .before .is-length .ensures) (c .before .before .before .before .if2 .taken))
+    (in-second _ _ _ _ (c .before .before .before .before .before .before .before .before .before .word-at .ensures .0) (omega arith) _ (rw (c .before
+    .before .before .before .before .before .before .behind .ensures) at (c .before .before .before .before .before .before .word-at2 .ensures .0)) _
+    (c .before .before .before .before .before .is-length .ensures) (c .before .before .before .before .if2 .taken))
 
 sum-requires : tie.Need-sum-requires
 sum-requires c κs = search needs
@@ -52,7 +54,10 @@ same-length-3 c = search needs
 
 returns-3 : tie.Need-returns-3
 returns-3 c = puts-same _ _ _ _ _ _ (c .before .before .put-length .ensures)
-    (second-wrong _ _ _ _ (c .before .before .before .before .before .before .before .before .before .before .word-at .ensures .0) (omega arith) _ (rw (c .before .before .before .before .before .before .before .before .behind .ensures) at (c .before .before .before .before .before .before .before .word-at2 .ensures .0)) _ (c .before .before .before .before .before .before .is-length .ensures) _ (c .before .before .before .before .before .if2 .left) (c .before .before .before .before .sum .ensures))
+    (second-wrong _ _ _ _ (c .before .before .before .before .before .before .before .before .before .before .word-at .ensures .0) (omega arith) _ (rw
+    (c .before .before .before .before .before .before .before .before .behind .ensures) at (c .before .before .before .before .before .before .before
+    .word-at2 .ensures .0)) _ (c .before .before .before .before .before .before .is-length .ensures) _ (c .before .before .before .before .before
+    .if2 .left) (c .before .before .before .before .sum .ensures))
 
 pub put-second-spec : {M : Type 1} → statement M
 put-second-spec =

@@ -33,8 +33,11 @@ same-length : tie.Need-same-length
 same-length c = search needs
 
 returns : tie.Need-returns
-returns c = puts-same _ _ _ _ _ _ (puts-then _ _ _ _ _ _ _ _ (puts-then _ _ _ _ _ _ _ _ (c .before .before .before .before .before .before .before .before .before .before .before .before .before .put-hex .ensures) (c .before .before .before .before .before .before .before .put-natural .ensures)) (c .before .before .put .ensures))
-    (asked-told _ _ _ (c .before .before .before .before .before .before .before .before .before .before .before .before .before .before .before .word-at .ensures .0) (c .before .before .before .before .before .before .before .before .before .byte-at .ensures .0))
+returns c = puts-same _ _ _ _ _ _ (puts-then _ _ _ _ _ _ _ _ (puts-then _ _ _ _ _ _ _ _ (c .before .before .before .before .before .before .before
+    .before .before .before .before .before .before .put-hex .ensures) (c .before .before .before .before .before .before .before .put-natural
+    .ensures)) (c .before .before .put .ensures))
+    (asked-told _ _ _ (c .before .before .before .before .before .before .before .before .before .before .before .before .before .before .before
+    .word-at .ensures .0) (c .before .before .before .before .before .before .before .before .before .byte-at .ensures .0))
 
 pub put-asked-spec : {M : Type 1} → statement M
 put-asked-spec =

@@ -19,7 +19,8 @@ same-length c = search needs
 
 returns : tie.Need-returns
 unfolding changeOf
-returns c = puts-then _ _ _ _ _ _ _ _ (c .before .before .before .before .before .before .before .put-natural .ensures) (c .before .before .put-natural2 .ensures)
+returns c = puts-then _ _ _ _ _ _ _ _ (c .before .before .before .before .before .before .before .put-natural .ensures) (c .before .before
+    .put-natural2 .ensures)
 
 pub put-change-spec : {M : Type 1} → statement M
 put-change-spec =

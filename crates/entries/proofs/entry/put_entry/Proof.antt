@@ -25,7 +25,10 @@ same-length c = search needs
 
 returns : tie.Need-returns
 unfolding entryLine
-returns c = puts-then _ _ _ _ _ _ _ _ (puts-then _ _ _ _ _ _ _ _ (puts-then _ _ _ _ _ _ _ _ (c .before .before .before .before .before .before .before .before .before .before .before .before .before .before .before .put-title .ensures) (c .before .before .before .before .before .before .before .before .before .before .before .put-asked .ensures)) (c .before .before .before .before .before .before .before .put-what .ensures)) (c .before .before .put .ensures)
+returns c = puts-then _ _ _ _ _ _ _ _ (puts-then _ _ _ _ _ _ _ _ (puts-then _ _ _ _ _ _ _ _ (c .before .before .before .before .before .before .before
+    .before .before .before .before .before .before .before .before .put-title .ensures) (c .before .before .before .before .before .before .before
+    .before .before .before .before .put-asked .ensures)) (c .before .before .before .before .before .before .before .put-what .ensures)) (c .before
+    .before .put .ensures)
 
 pub put-entry-spec : {M : Type 1} → statement M
 put-entry-spec =

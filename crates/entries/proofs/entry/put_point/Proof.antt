@@ -53,8 +53,11 @@ same-length-2 : tie.Need-same-length-2
 same-length-2 c = search needs
 
 returns-2 : tie.Need-returns-2
-returns-2 c = puts-same _ _ _ _ _ _ (puts-then _ _ _ _ _ _ _ _ (puts-then _ _ _ _ _ _ _ _ (c .before .before .before .before .before .before .before .before .before .before .before .before .before .before .put-natural2 .ensures) (c .before .before .before .before .before .before .before .before .put-number .ensures)) (c .before .before .put-number2 .ensures))
-    (point-told _ _ _ _ _ (omega arith) (c .before .before .before .before .before .before .before .before .before .before .number-at .ensures .0) (c .before .before .before .before .number-at2 .ensures .0))
+returns-2 c = puts-same _ _ _ _ _ _ (puts-then _ _ _ _ _ _ _ _ (puts-then _ _ _ _ _ _ _ _ (c .before .before .before .before .before .before .before
+    .before .before .before .before .before .before .before .put-natural2 .ensures) (c .before .before .before .before .before .before .before .before
+    .put-number .ensures)) (c .before .before .put-number2 .ensures))
+    (point-told _ _ _ _ _ (omega arith) (c .before .before .before .before .before .before .before .before .before .before .number-at .ensures .0) (c
+    .before .before .before .before .number-at2 .ensures .0))
 
 pub put-point-spec : {M : Type 1} → statement M
 put-point-spec =

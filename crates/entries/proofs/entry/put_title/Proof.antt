@@ -22,7 +22,8 @@ same-length c = search needs
 
 returns : tie.Need-returns
 unfolding titleOf
-returns c = puts-then _ _ _ _ _ _ _ _ (c .before .before .before .before .before .before .before .put-natural .ensures) (c .before .before .put-natural2 .ensures)
+returns c = puts-then _ _ _ _ _ _ _ _ (c .before .before .before .before .before .before .before .put-natural .ensures) (c .before .before
+    .put-natural2 .ensures)
 
 pub put-title-spec : {M : Type 1} → statement M
 put-title-spec =

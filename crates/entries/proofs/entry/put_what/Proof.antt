@@ -19,7 +19,8 @@ same-length c = search needs
 
 returns : tie.Need-returns
 returns c = puts-same _ _ _ _ _ _ (c .before .before .put-kinds .ensures)
-    (kinds-told _ _ _ _ (c .before .before .before .before .before .before .word-at .ensures .0) (c .before .before .before .before .before .word-at2 .ensures .0) (c .before .before .before .before .if1 .taken))
+    (kinds-told _ _ _ _ (c .before .before .before .before .before .before .word-at .ensures .0) (c .before .before .before .before .before .word-at2
+    .ensures .0) (c .before .before .before .before .if1 .taken))
 
 byte-at-requires : tie.Need-byte-at-requires
 byte-at-requires c κs = search needs
@@ -38,7 +39,10 @@ same-length-2 c = search needs
 
 returns-2 : tie.Need-returns-2
 returns-2 c = puts-same _ _ _ _ _ _ (c .before .before .put-change .ensures)
-    (numbers-told _ _ _ _ (c .before .before .before .before .before .before .before .before .before .before .word-at .ensures .0) (c .before .before .before .before .before .before .before .before .before .word-at2 .ensures .0) (c .before .before .before .before .before .before .before .before .if1 .left) _ _ (c .before .before .before .before .before .before .before .byte-at .ensures .0) (c .before .before .before .before .before .before .byte-at2 .ensures .0) (c .before .before .before .before .before .if2 .taken))
+    (numbers-told _ _ _ _ (c .before .before .before .before .before .before .before .before .before .before .word-at .ensures .0) (c .before .before
+    .before .before .before .before .before .before .before .word-at2 .ensures .0) (c .before .before .before .before .before .before .before .before
+    .if1 .left) _ _ (c .before .before .before .before .before .before .before .byte-at .ensures .0) (c .before .before .before .before .before
+    .before .byte-at2 .ensures .0) (c .before .before .before .before .before .if2 .taken))
 
 byte-at-requires-3 : tie.Need-byte-at-requires-3
 byte-at-requires-3 c κs = search needs
@@ -57,7 +61,12 @@ same-length-3 c = search needs
 
 returns-3 : tie.Need-returns-3
 returns-3 c = puts-same _ _ _ _ _ _ (c .before .before .put-change2 .ensures)
-    (places-told _ _ _ _ (c .before .before .before .before .before .before .before .before .before .before .before .before .before .word-at .ensures .0) (c .before .before .before .before .before .before .before .before .before .before .before .before .word-at2 .ensures .0) (c .before .before .before .before .before .before .before .before .before .before .before .if1 .left) _ _ (c .before .before .before .before .before .before .before .before .before .before .byte-at .ensures .0) (c .before .before .before .before .before .before .before .before .before .byte-at2 .ensures .0) (c .before .before .before .before .before .before .before .before .if2 .left) _ _ (c .before .before .before .before .before .before .before .byte-at3 .ensures .0) (c .before .before .before .before .before .before .byte-at4 .ensures .0)
+    (places-told _ _ _ _ (c .before .before .before .before .before .before .before .before .before .before .before .before .before .word-at .ensures
+    .0) (c .before .before .before .before .before .before .before .before .before .before .before .before .word-at2 .ensures .0) (c .before .before
+    .before .before .before .before .before .before .before .before .before .if1 .left) _ _ (c .before .before .before .before .before .before .before
+    .before .before .before .byte-at .ensures .0) (c .before .before .before .before .before .before .before .before .before .byte-at2 .ensures .0) (c
+    .before .before .before .before .before .before .before .before .if2 .left) _ _ (c .before .before .before .before .before .before .before
+    .byte-at3 .ensures .0) (c .before .before .before .before .before .before .byte-at4 .ensures .0)
     (c .before .before .before .before .before .if3 .taken))
 
 byte-at-requires-5 : tie.Need-byte-at-requires-5
@@ -77,8 +86,16 @@ same-length-4 c = search needs
 
 returns-4 : tie.Need-returns-4
 returns-4 c = puts-same _ _ _ _ _ _ (c .before .before .put-change3 .ensures)
-    (counts-told _ _ _ _ (c .before .before .before .before .before .before .before .before .before .before .before .before .before .before .before .before .word-at .ensures .0) (c .before .before .before .before .before .before .before .before .before .before .before .before .before .before .before .word-at2 .ensures .0) (c .before .before .before .before .before .before .before .before .before .before .before .before .before .before .if1 .left) _ _ (c .before .before .before .before .before .before .before .before .before .before .before .before .before .byte-at .ensures .0) (c .before .before .before .before .before .before .before .before .before .before .before .before .byte-at2 .ensures .0) (c .before .before .before .before .before .before .before .before .before .before .before .if2 .left) _ _ (c .before .before .before .before .before .before .before .before .before .before .byte-at3 .ensures .0) (c .before .before .before .before .before .before .before .before .before .byte-at4 .ensures .0)
-    (c .before .before .before .before .before .before .before .before .if3 .left) _ _ (c .before .before .before .before .before .before .before .byte-at5 .ensures .0) (c .before .before .before .before .before .before .byte-at6 .ensures .0) (c .before .before .before .before .before .if4 .taken))
+    (counts-told _ _ _ _ (c .before .before .before .before .before .before .before .before .before .before .before .before .before .before .before
+    .before .word-at .ensures .0) (c .before .before .before .before .before .before .before .before .before .before .before .before .before .before
+    .before .word-at2 .ensures .0) (c .before .before .before .before .before .before .before .before .before .before .before .before .before .before
+    .if1 .left) _ _ (c .before .before .before .before .before .before .before .before .before .before .before .before .before .byte-at .ensures .0)
+    (c .before .before .before .before .before .before .before .before .before .before .before .before .byte-at2 .ensures .0) (c .before .before
+    .before .before .before .before .before .before .before .before .before .if2 .left) _ _ (c .before .before .before .before .before .before .before
+    .before .before .before .byte-at3 .ensures .0) (c .before .before .before .before .before .before .before .before .before .byte-at4 .ensures .0)
+    (c .before .before .before .before .before .before .before .before .if3 .left) _ _ (c .before .before .before .before .before .before .before
+    .byte-at5 .ensures .0) (c .before .before .before .before .before .before .byte-at6 .ensures .0) (c .before .before .before .before .before .if4
+    .taken))
 
 put-behind-requires : tie.Need-put-behind-requires
 put-behind-requires c κs = search needs
@@ -88,8 +105,15 @@ same-length-5 c = search needs
 
 returns-5 : tie.Need-returns-5
 returns-5 c = puts-same _ _ _ _ _ _ (c .before .before .put-behind .ensures)
-    (behind-told _ _ _ _ (c .before .before .before .before .before .before .before .before .before .before .before .before .before .before .before .word-at .ensures .0) (c .before .before .before .before .before .before .before .before .before .before .before .before .before .before .word-at2 .ensures .0) (c .before .before .before .before .before .before .before .before .before .before .before .before .before .if1 .left) _ _ (c .before .before .before .before .before .before .before .before .before .before .before .before .byte-at .ensures .0) (c .before .before .before .before .before .before .before .before .before .before .before .byte-at2 .ensures .0) (c .before .before .before .before .before .before .before .before .before .before .if2 .left) _ _ (c .before .before .before .before .before .before .before .before .before .byte-at3 .ensures .0) (c .before .before .before .before .before .before .before .before .byte-at4 .ensures .0)
-    (c .before .before .before .before .before .before .before .if3 .left) _ _ (c .before .before .before .before .before .before .byte-at5 .ensures .0) (c .before .before .before .before .before .byte-at6 .ensures .0) (c .before .before .before .before .if4 .left))
+    (behind-told _ _ _ _ (c .before .before .before .before .before .before .before .before .before .before .before .before .before .before .before
+    .word-at .ensures .0) (c .before .before .before .before .before .before .before .before .before .before .before .before .before .before .word-at2
+    .ensures .0) (c .before .before .before .before .before .before .before .before .before .before .before .before .before .if1 .left) _ _ (c .before
+    .before .before .before .before .before .before .before .before .before .before .before .byte-at .ensures .0) (c .before .before .before .before
+    .before .before .before .before .before .before .before .byte-at2 .ensures .0) (c .before .before .before .before .before .before .before .before
+    .before .before .if2 .left) _ _ (c .before .before .before .before .before .before .before .before .before .byte-at3 .ensures .0) (c .before
+    .before .before .before .before .before .before .before .byte-at4 .ensures .0)
+    (c .before .before .before .before .before .before .before .if3 .left) _ _ (c .before .before .before .before .before .before .byte-at5 .ensures
+    .0) (c .before .before .before .before .before .byte-at6 .ensures .0) (c .before .before .before .before .if4 .left))
 
 pub put-what-spec : {M : Type 1} → statement M
 put-what-spec =

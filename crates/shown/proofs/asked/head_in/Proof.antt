@@ -29,7 +29,8 @@ cast-t9 : tie.Need-cast-t9
 cast-t9 c = search needs
 
 returns : tie.Need-returns
-returns c = head-is _ _ _ _ _ (c .before .before .before .byte-at .ensures .0) (c .before .before .byte-at2 .ensures .0) (c .before .byte-at3 .ensures .0) (c .byte-at4 .ensures .0)
+returns c = head-is _ _ _ _ _ (c .before .before .before .byte-at .ensures .0) (c .before .before .byte-at2 .ensures .0) (c .before .byte-at3 .ensures
+    .0) (c .byte-at4 .ensures .0)
 
 pub head-in-spec : {M : Type 1} → statement M
 head-in-spec =

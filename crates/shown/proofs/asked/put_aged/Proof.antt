@@ -33,8 +33,12 @@ same-length : tie.Need-same-length
 same-length c = search needs
 
 returns : tie.Need-returns
-returns c = puts-same _ _ _ _ _ _ (puts-then _ _ _ _ _ _ _ _ (puts-then _ _ _ _ _ _ _ _ (puts-then _ _ _ _ _ _ _ _ (c .before .before .before .before .before .before .before .before .before .before .before .before .before .before .before .before .before .before .put-head .ensures) (c .before .before .before .before .before .before .before .before .before .before .before .before .put-natural .ensures)) (c .before .before .before .before .before .before .before .put .ensures)) (c .before .before .put-wish .ensures))
-    (aged-told _ _ _ (c .before .before .before .before .head-in .ensures) (c .before .before .before .before .before .before .before .before .before .before .before .before .before .before .word-at .ensures .0))
+returns c = puts-same _ _ _ _ _ _ (puts-then _ _ _ _ _ _ _ _ (puts-then _ _ _ _ _ _ _ _ (puts-then _ _ _ _ _ _ _ _ (c .before .before .before .before
+    .before .before .before .before .before .before .before .before .before .before .before .before .before .before .put-head .ensures) (c .before
+    .before .before .before .before .before .before .before .before .before .before .before .put-natural .ensures)) (c .before .before .before .before
+    .before .before .before .put .ensures)) (c .before .before .put-wish .ensures))
+    (aged-told _ _ _ (c .before .before .before .before .head-in .ensures) (c .before .before .before .before .before .before .before .before .before
+    .before .before .before .before .before .word-at .ensures .0))
 
 pub put-aged-spec : {M : Type 1} → statement M
 put-aged-spec =

@@ -36,7 +36,8 @@ same-length c = search needs
 
 returns : tie.Need-returns
 returns c = puts-same _ _ _ _ _ _ (c .before .before .put .ensures)
-    (body-other _ _ _ _ _ (c .before .before .before .before .before .before .before .surface-count .ensures) (c .before .before .before .before .before .before .path-count .ensures) (c .before .before .before .before .before .if1 .taken))
+    (body-other _ _ _ _ _ (c .before .before .before .before .before .before .before .surface-count .ensures) (c .before .before .before .before
+    .before .before .path-count .ensures) (c .before .before .before .before .before .if1 .taken))
 
 put-lists-requires : tie.Need-put-lists-requires
 put-lists-requires c κs = (omega arith, omega arith)
@@ -46,7 +47,8 @@ same-length-2 c = search needs
 
 returns-2 : tie.Need-returns-2
 returns-2 c = puts-same _ _ _ _ _ _ (c .before .before .put-lists .ensures)
-    (body-told _ _ _ _ _ (c .before .before .before .before .before .before .surface-count .ensures) (c .before .before .before .before .before .path-count .ensures) (c .before .before .before .before .if1 .left))
+    (body-told _ _ _ _ _ (c .before .before .before .before .before .before .surface-count .ensures) (c .before .before .before .before .before
+    .path-count .ensures) (c .before .before .before .before .if1 .left))
 
 pub put-body-spec : {M : Type 1} → statement M
 put-body-spec =

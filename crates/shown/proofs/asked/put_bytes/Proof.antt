@@ -31,13 +31,16 @@ loop-less : tie.Need-loop-less Inv-loop μ-loop
 loop-less c = omega arith
 
 loop-again : tie.Need-loop-again Inv-loop μ-loop
-loop-again c = onward-more _ _ _ _ _ _ (c .before .before .before .before .before .before .loop .inv) _ _ _ _ (c .before .before .put-byte .ensures) (byte-next (c .before .before .before .before .before .before .before .before .before .args .bytes .now) (c .before .before .before .before .before .before .loop .k) _ (omega arith) (c .before .before .before .before .byte-at .ensures .0))
+loop-again c = onward-more _ _ _ _ _ _ (c .before .before .before .before .before .before .loop .inv) _ _ _ _ (c .before .before .put-byte .ensures)
+    (byte-next (c .before .before .before .before .before .before .before .before .before .args .bytes .now) (c .before .before .before .before
+    .before .before .loop .k) _ (omega arith) (c .before .before .before .before .byte-at .ensures .0))
 
 same-length : tie.Need-same-length Inv-loop μ-loop
 same-length c = omega arith
 
 returns : tie.Need-returns Inv-loop μ-loop
-returns c = onward-all _ _ _ _ _ _ (c .before .loop .inv) (bytes-over (c .before .before .before .before .args .bytes .now) (c .before .loop .k) (omega arith))
+returns c = onward-all _ _ _ _ _ _ (c .before .loop .inv) (bytes-over (c .before .before .before .before .args .bytes .now) (c .before .loop .k)
+    (omega arith))
 
 pub put-bytes-spec : {M : Type 1} → statement M
 put-bytes-spec =

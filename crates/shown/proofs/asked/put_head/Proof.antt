@@ -45,8 +45,14 @@ same-length : tie.Need-same-length
 same-length c = search needs
 
 returns : tie.Need-returns
-returns c = puts-same _ _ _ _ _ _ (puts-then _ _ _ _ _ _ _ _ (puts-then _ _ _ _ _ _ _ _ (puts-then _ _ _ _ _ _ _ _ (c .before .before .before .before .before .before .before .before .before .before .before .before .before .before .before .before .before .before .before .before .put-natural .ensures) (c .before .before .before .before .before .before .before .before .before .before .before .before .before .before .put-natural2 .ensures)) (c .before .before .before .before .before .before .before .before .put-natural3 .ensures)) (c .before .before .put-natural4 .ensures))
-    (head-told _ _ _ _ _ (c .before .before .before .before .before .before .before .before .before .before .before .before .before .before .before .before .before .before .before .before .before .before .byte-at .ensures .0) (c .before .before .before .before .before .before .before .before .before .before .before .before .before .before .before .before .byte-at2 .ensures .0) (c .before .before .before .before .before .before .before .before .before .before .byte-at3 .ensures .0) (c .before .before .before .before .byte-at4 .ensures .0))
+returns c = puts-same _ _ _ _ _ _ (puts-then _ _ _ _ _ _ _ _ (puts-then _ _ _ _ _ _ _ _ (puts-then _ _ _ _ _ _ _ _ (c .before .before .before .before
+    .before .before .before .before .before .before .before .before .before .before .before .before .before .before .before .before .put-natural
+    .ensures) (c .before .before .before .before .before .before .before .before .before .before .before .before .before .before .put-natural2
+    .ensures)) (c .before .before .before .before .before .before .before .before .put-natural3 .ensures)) (c .before .before .put-natural4 .ensures))
+    (head-told _ _ _ _ _ (c .before .before .before .before .before .before .before .before .before .before .before .before .before .before .before
+    .before .before .before .before .before .before .before .byte-at .ensures .0) (c .before .before .before .before .before .before .before .before
+    .before .before .before .before .before .before .before .before .byte-at2 .ensures .0) (c .before .before .before .before .before .before .before
+    .before .before .before .byte-at3 .ensures .0) (c .before .before .before .before .byte-at4 .ensures .0))
 
 pub put-head-spec : {M : Type 1} → statement M
 put-head-spec =

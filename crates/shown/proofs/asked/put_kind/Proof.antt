@@ -30,7 +30,8 @@ same-length-2 c = search needs
 
 returns-2 : tie.Need-returns-2
 returns-2 c = puts-same _ _ _ _ _ _ (c .before .before .put .ensures)
-    (kind-none _ _ (c .before .before .before .before .before .before .before .word-at .ensures .0) (c .before .before .before .before .before .before .if1 .left) (c .before .before .before .before .before .if2 .taken))
+    (kind-none _ _ (c .before .before .before .before .before .before .before .word-at .ensures .0) (c .before .before .before .before .before .before
+    .if1 .left) (c .before .before .before .before .before .if2 .taken))
 
 slice-aggregate-put-2 : tie.Need-slice-aggregate-put-2
 slice-aggregate-put-2 c = search needs
@@ -43,7 +44,8 @@ same-length-3 c = search needs
 
 returns-3 : tie.Need-returns-3
 returns-3 c = puts-same _ _ _ _ _ _ (c .before .before .put2 .ensures)
-    (kind-short _ _ (c .before .before .before .before .before .before .before .before .word-at .ensures .0) (c .before .before .before .before .before .before .before .if1 .left) (c .before .before .before .before .before .before .if2 .left) (omega arith))
+    (kind-short _ _ (c .before .before .before .before .before .before .before .before .word-at .ensures .0) (c .before .before .before .before
+    .before .before .before .if1 .left) (c .before .before .before .before .before .before .if2 .left) (omega arith))
 
 put-aged-requires : tie.Need-put-aged-requires
 put-aged-requires c κs = search needs
@@ -53,7 +55,8 @@ same-length-4 c = search needs
 
 returns-4 : tie.Need-returns-4
 returns-4 c = puts-same _ _ _ _ _ _ (c .before .before .put-aged .ensures)
-    (kind-aged _ _ (c .before .before .before .before .before .before .before .word-at .ensures .0) (c .before .before .before .before .before .before .if1 .left) (c .before .before .before .before .before .if2 .left) (omega arith))
+    (kind-aged _ _ (c .before .before .before .before .before .before .before .word-at .ensures .0) (c .before .before .before .before .before .before
+    .if1 .left) (c .before .before .before .before .before .if2 .left) (omega arith))
 
 pub put-kind-spec : {M : Type 1} → statement M
 put-kind-spec =

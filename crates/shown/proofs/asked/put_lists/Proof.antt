@@ -28,7 +28,10 @@ same-length c = search needs
 
 returns : tie.Need-returns
 unfolding listsText
-returns c = puts-then _ _ _ _ _ _ _ _ (puts-then _ _ _ _ _ _ _ _ (puts-then _ _ _ _ _ _ _ _ (c .before .before .before .before .before .before .before .before .before .before .before .before .before .before .before .put .ensures) (c .before .before .before .before .before .before .before .before .before .before .before .put-numbers .ensures)) (c .before .before .before .before .before .before .put2 .ensures)) (c .before .before .put-numbers2 .ensures)
+returns c = puts-then _ _ _ _ _ _ _ _ (puts-then _ _ _ _ _ _ _ _ (puts-then _ _ _ _ _ _ _ _ (c .before .before .before .before .before .before .before
+    .before .before .before .before .before .before .before .before .put .ensures) (c .before .before .before .before .before .before .before .before
+    .before .before .before .put-numbers .ensures)) (c .before .before .before .before .before .before .put2 .ensures)) (c .before .before
+    .put-numbers2 .ensures)
 
 pub put-lists-spec : {M : Type 1} → statement M
 put-lists-spec =

@@ -34,7 +34,8 @@ loop-less : tie.Need-loop-less Inv-loop μ-loop
 loop-less c = omega arith
 
 loop-again : tie.Need-loop-again Inv-loop μ-loop
-loop-again c = onward-more _ _ _ _ _ _ (c .before .before .before .before .before .loop .inv) _ _ _ _ (c .before .before .put-next .ensures) (number-next _ _ _ _ (omega arith))
+loop-again c = onward-more _ _ _ _ _ _ (c .before .before .before .before .before .loop .inv) _ _ _ _ (c .before .before .put-next .ensures)
+    (number-next _ _ _ _ (omega arith))
 
 same-length : tie.Need-same-length Inv-loop μ-loop
 same-length c = omega arith

@@ -24,7 +24,9 @@ same-length : tie.Need-same-length
 same-length c = search needs
 
 returns : tie.Need-returns
-returns c = puts-same _ _ _ _ _ _ (puts-then _ _ _ _ _ _ _ _ (puts-then _ _ _ _ _ _ _ _ (c .before .before .before .before .before .before .before .before .before .before .before .before .put-head .ensures) (c .before .before .before .before .before .before .before .put .ensures)) (c .before .before .put-wish .ensures))
+returns c = puts-same _ _ _ _ _ _ (puts-then _ _ _ _ _ _ _ _ (puts-then _ _ _ _ _ _ _ _ (c .before .before .before .before .before .before .before
+    .before .before .before .before .before .put-head .ensures) (c .before .before .before .before .before .before .before .put .ensures)) (c .before
+    .before .put-wish .ensures))
     (plain-told _ _ (c .before .before .before .before .head-in .ensures))
 
 pub put-plain-spec : {M : Type 1} → statement M

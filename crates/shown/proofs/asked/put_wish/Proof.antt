@@ -36,7 +36,9 @@ same-length-2 c = search needs
 
 returns-2 : tie.Need-returns-2
 returns-2 c = puts-same _ _ _ _ _ _ (c .before .before .put2 .ensures)
-    (degree-none _ _ _ _ (c .before .before .before .before .before .before .before .before .not-kind .ensures) (c .before .before .before .before .before .before .before .if1 .left) _ (c .before .before .before .before .before .before .not-degree .ensures) (c .before .before .before .before .before .if2 .taken))
+    (degree-none _ _ _ _ (c .before .before .before .before .before .before .before .before .not-kind .ensures) (c .before .before .before .before
+    .before .before .before .if1 .left) _ (c .before .before .before .before .before .before .not-degree .ensures) (c .before .before .before .before
+    .before .if2 .taken))
 
 put-body-requires : tie.Need-put-body-requires
 put-body-requires c κs = (c .before .before .before .before .before .before .before .pre, sym (c .before .before .not-degree .ensures) ∙ c .before .if2 .left)
@@ -46,7 +48,8 @@ same-length-3 c = search needs
 
 returns-3 : tie.Need-returns-3
 returns-3 c = puts-same _ _ _ _ _ _ (c .before .before .put-body .ensures)
-    (wish-told _ _ _ _ (c .before .before .before .before .before .before .before .not-kind .ensures) (c .before .before .before .before .before .before .if1 .left) _ (c .before .before .before .before .before .not-degree .ensures) (c .before .before .before .before .if2 .left))
+    (wish-told _ _ _ _ (c .before .before .before .before .before .before .before .not-kind .ensures) (c .before .before .before .before .before
+    .before .if1 .left) _ (c .before .before .before .before .before .not-degree .ensures) (c .before .before .before .before .if2 .left))
 
 pub put-wish-spec : {M : Type 1} → statement M
 put-wish-spec =

@@ -22,7 +22,8 @@ same-length c = search needs
 
 returns : tie.Need-returns
 unfolding lineText
-returns c = puts-then _ _ _ _ _ _ _ _ (puts-then _ _ _ _ _ _ _ _ (c .before .before .before .before .before .before .before .before .before .before .before .put .ensures) (c .before .before .before .before .before .before .before .put-marked .ensures)) (c .before .before .put2 .ensures)
+returns c = puts-then _ _ _ _ _ _ _ _ (puts-then _ _ _ _ _ _ _ _ (c .before .before .before .before .before .before .before .before .before .before
+    .before .put .ensures) (c .before .before .before .before .before .before .before .put-marked .ensures)) (c .before .before .put2 .ensures)
 
 pub put-line-spec : {M : Type 1} → statement M
 put-line-spec =

@@ -47,7 +47,8 @@ same-length c = omega arith
 
 returns : tie.Need-returns Inv-loop μ-loop
 returns c = onward-all _ _ _ _ _ []
-    (onward-more _ _ _ _ _ _ (c .before .before .before .before .before .loop .inv) _ _ _ _ (c .before .before .put-last .ensures) (marks-over _ _ _ (omega arith))) refl
+    (onward-more _ _ _ _ _ _ (c .before .before .before .before .before .loop .inv) _ _ _ _ (c .before .before .put-last .ensures) (marks-over _ _ _
+    (omega arith))) refl
 
 pub put-marked-spec : {M : Type 1} → statement M
 put-marked-spec =

@@ -34,7 +34,10 @@ same-length c = search needs
 
 returns : tie.Need-returns
 unfolding marksText
-returns c = puts-then _ _ _ _ _ _ _ _ (puts-then _ _ _ _ _ _ _ _ (puts-then _ _ _ _ _ _ _ _ (c .before .before .before .before .before .before .before .before .before .before .before .before .before .before .before .before .before .put-line .ensures) (c .before .before .before .before .before .before .before .before .before .before .before .before .put-line2 .ensures)) (c .before .before .before .before .before .before .before .put-natural .ensures)) (c .before .before .put .ensures)
+returns c = puts-then _ _ _ _ _ _ _ _ (puts-then _ _ _ _ _ _ _ _ (puts-then _ _ _ _ _ _ _ _ (c .before .before .before .before .before .before .before
+    .before .before .before .before .before .before .before .before .before .before .put-line .ensures) (c .before .before .before .before .before
+    .before .before .before .before .before .before .before .put-line2 .ensures)) (c .before .before .before .before .before .before .before
+    .put-natural .ensures)) (c .before .before .put .ensures)
 
 pub put-marks-spec : {M : Type 1} → statement M
 put-marks-spec =

@@ -15,7 +15,11 @@ byte-at-requires : tie.Need-byte-at-requires
 byte-at-requires c κs = search needs
 
 returns-2 : tie.Need-returns-2
-returns-2 c = (no-points _ _ (c .before .before .before .word-at .ensures .0) (c .before .before .if1 .left) _ (c .before .byte-at .ensures .0) (c .if2 .taken), omega arith)
+returns-2 c = (
+  no-points _ _ (c .before .before .before .word-at .ensures .0) (c .before .before .if1 .left) _ (c .before .byte-at .ensures .0) (c
+      .if2 .taken),
+  omega arith,
+)
 
 byte-at-requires-2 : tie.Need-byte-at-requires-2
 byte-at-requires-2 c κs = search needs
@@ -27,11 +31,16 @@ add-if3 : tie.Need-add-if3
 add-if3 c = search needs
 
 returns-3 : tie.Need-returns-3
-returns-3 c = (other-size _ _ (c .before .before .before .before .before .word-at .ensures .0) (c .before .before .before .before .if1 .left) _ (c .before .before .before .byte-at .ensures .0) (c .before .before .if2 .left) _ (c .before .byte-at2 .ensures .0) (c .if3 .taken), omega arith)
+returns-3 c = (
+  other-size _ _ (c .before .before .before .before .before .word-at .ensures .0) (c .before .before .before .before .if1 .left) _ (c
+      .before .before .before .byte-at .ensures .0) (c .before .before .if2 .left) _ (c .before .byte-at2 .ensures .0) (c .if3 .taken),
+  omega arith,
+)
 
 returns-4 : tie.Need-returns-4
 returns-4 c = (
-  points-are _ _ (c .before .before .before .before .before .word-at .ensures .0) (c .before .before .before .before .if1 .left) _ (c .before .before .before .byte-at .ensures .0) (c .before .before .if2 .left) _ (c .before .byte-at2 .ensures .0) (c .if3 .left),
+  points-are _ _ (c .before .before .before .before .before .word-at .ensures .0) (c .before .before .before .before .if1 .left) _ (c .before .before
+      .before .byte-at .ensures .0) (c .before .before .if2 .left) _ (c .before .byte-at2 .ensures .0) (c .if3 .left),
   c .before .byte-at2 .ensures .1,
 )
 

@@ -35,7 +35,9 @@ same-length-2 c = search needs
 
 returns-2 : tie.Need-returns-2
 returns-2 c = puts-same _ _ _ _ _ _ (c .before .before .put2 .ensures)
-    (answer-accepted _ _ (c .before .before .before .before .before .before .before .before .word-at .ensures .0) (c .before .before .before .before .before .before .before .if1 .left) _ (c .before .before .before .before .before .before .byte-at .ensures .0) (c .before .before .before .before .before .if2 .taken))
+    (answer-accepted _ _ (c .before .before .before .before .before .before .before .before .word-at .ensures .0) (c .before .before .before .before
+    .before .before .before .if1 .left) _ (c .before .before .before .before .before .before .byte-at .ensures .0) (c .before .before .before .before
+    .before .if2 .taken))
 
 put-refusal-requires : tie.Need-put-refusal-requires
 put-refusal-requires c κs = search needs
@@ -45,7 +47,8 @@ same-length-3 c = search needs
 
 returns-3 : tie.Need-returns-3
 returns-3 c = puts-same _ _ _ _ _ _ (c .before .before .put-refusal .ensures)
-    (answer-refused _ _ (c .before .before .before .before .before .before .before .word-at .ensures .0) (c .before .before .before .before .before .before .if1 .left) _ (c .before .before .before .before .before .byte-at .ensures .0) (c .before .before .before .before .if2 .left))
+    (answer-refused _ _ (c .before .before .before .before .before .before .before .word-at .ensures .0) (c .before .before .before .before .before
+    .before .if1 .left) _ (c .before .before .before .before .before .byte-at .ensures .0) (c .before .before .before .before .if2 .left))
 
 pub put-answer-spec : {M : Type 1} → statement M
 put-answer-spec =

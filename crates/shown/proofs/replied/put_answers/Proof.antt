@@ -28,7 +28,10 @@ same-length c = search needs
 
 returns : tie.Need-returns
 unfolding answersText
-returns c = puts-then _ _ _ _ _ _ _ _ (puts-then _ _ _ _ _ _ _ _ (puts-then _ _ _ _ _ _ _ _ (c .before .before .before .before .before .before .before .before .before .before .before .before .before .before .before .put .ensures) (c .before .before .before .before .before .before .before .before .before .before .before .put-answer .ensures)) (c .before .before .before .before .before .before .put2 .ensures)) (c .before .before .put-answer2 .ensures)
+returns c = puts-then _ _ _ _ _ _ _ _ (puts-then _ _ _ _ _ _ _ _ (puts-then _ _ _ _ _ _ _ _ (c .before .before .before .before .before .before .before
+    .before .before .before .before .before .before .before .before .put .ensures) (c .before .before .before .before .before .before .before .before
+    .before .before .before .put-answer .ensures)) (c .before .before .before .before .before .before .put2 .ensures)) (c .before .before .put-answer2
+    .ensures)
 
 pub put-answers-spec : {M : Type 1} → statement M
 put-answers-spec =

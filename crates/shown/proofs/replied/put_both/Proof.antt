@@ -19,7 +19,8 @@ same-length c = search needs
 
 returns : tie.Need-returns
 unfolding bothText
-returns c = puts-then _ _ _ _ _ _ _ _ (c .before .before .before .before .before .before .before .put-natural .ensures) (c .before .before .put-natural2 .ensures)
+returns c = puts-then _ _ _ _ _ _ _ _ (c .before .before .before .before .before .before .before .put-natural .ensures) (c .before .before
+    .put-natural2 .ensures)
 
 pub put-both-spec : {M : Type 1} → statement M
 put-both-spec =

@@ -39,8 +39,12 @@ same-length : tie.Need-same-length
 same-length c = search needs
 
 returns : tie.Need-returns
-returns c = puts-same _ _ _ _ _ _ (puts-then _ _ _ _ _ _ _ _ (puts-then _ _ _ _ _ _ _ _ (puts-then _ _ _ _ _ _ _ _ (c .before .before .before .before .before .before .before .before .before .before .before .before .before .before .before .before .before .before .before .put .ensures) (c .before .before .before .before .before .before .before .before .before .before .before .before .before .before .put-both .ensures)) (c .before .before .before .before .before .before .before .before .put-hex .ensures)) (c .before .before .put-hex2 .ensures))
-    (heads-told _ _ _ _ (c .before .before .before .before .before .before .before .before .before .before .word-at .ensures .0) (c .before .before .before .before .word-at2 .ensures .0))
+returns c = puts-same _ _ _ _ _ _ (puts-then _ _ _ _ _ _ _ _ (puts-then _ _ _ _ _ _ _ _ (puts-then _ _ _ _ _ _ _ _ (c .before .before .before .before
+    .before .before .before .before .before .before .before .before .before .before .before .before .before .before .before .put .ensures) (c .before
+    .before .before .before .before .before .before .before .before .before .before .before .before .before .put-both .ensures)) (c .before .before
+    .before .before .before .before .before .before .put-hex .ensures)) (c .before .before .put-hex2 .ensures))
+    (heads-told _ _ _ _ (c .before .before .before .before .before .before .before .before .before .before .word-at .ensures .0) (c .before .before
+    .before .before .word-at2 .ensures .0))
 
 pub put-heads-spec : {M : Type 1} → statement M
 put-heads-spec =

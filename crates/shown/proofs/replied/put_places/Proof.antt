@@ -36,8 +36,12 @@ same-length : tie.Need-same-length
 same-length c = search needs
 
 returns : tie.Need-returns
-returns c = puts-same _ _ _ _ _ _ (puts-then _ _ _ _ _ _ _ _ (puts-then _ _ _ _ _ _ _ _ (c .before .before .before .before .before .before .before .before .before .before .before .before .before .before .before .before .put-answers .ensures) (c .before .before .before .before .before .before .before .before .before .put-both .ensures)) (c .before .before .put-both2 .ensures))
-    (places-told _ _ _ _ _ _ (c .before .before .before .before .before .before .before .before .before .before .before .before .byte-at .ensures .0) (c .before .before .before .before .before .before .before .before .before .before .before .byte-at2 .ensures .0) (c .before .before .before .before .before .byte-at3 .ensures .0) (c .before .before .before .before .byte-at4 .ensures .0))
+returns c = puts-same _ _ _ _ _ _ (puts-then _ _ _ _ _ _ _ _ (puts-then _ _ _ _ _ _ _ _ (c .before .before .before .before .before .before .before
+    .before .before .before .before .before .before .before .before .before .put-answers .ensures) (c .before .before .before .before .before .before
+    .before .before .before .put-both .ensures)) (c .before .before .put-both2 .ensures))
+    (places-told _ _ _ _ _ _ (c .before .before .before .before .before .before .before .before .before .before .before .before .byte-at .ensures .0)
+    (c .before .before .before .before .before .before .before .before .before .before .before .byte-at2 .ensures .0) (c .before .before .before
+    .before .before .byte-at3 .ensures .0) (c .before .before .before .before .byte-at4 .ensures .0))
 
 pub put-places-spec : {M : Type 1} → statement M
 put-places-spec =

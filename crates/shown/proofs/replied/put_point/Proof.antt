@@ -26,7 +26,8 @@ same-length c = search needs
 
 returns : tie.Need-returns
 returns c = puts-same _ _ _ _ _ _ (c .before .before .put-number .ensures)
-    (point-told _ _ _ _ (c .before .before .before .before .before .before .points .ensures .0) _ (omega arith) (c .before .before .before .before .number-at .ensures .0))
+    (point-told _ _ _ _ (c .before .before .before .before .before .before .points .ensures .0) _ (omega arith) (c .before .before .before .before
+    .number-at .ensures .0))
 
 put-requires : tie.Need-put-requires
 put-requires c κs = search needs
@@ -41,7 +42,8 @@ same-length-2 : tie.Need-same-length-2
 same-length-2 c = search needs
 
 returns-2 : tie.Need-returns-2
-returns-2 c = puts-same _ _ _ _ _ _ (puts-then _ _ _ _ _ _ _ _ (c .before .before .before .before .before .before .before .put .ensures) (c .before .before .put2 .ensures))
+returns-2 c = puts-same _ _ _ _ _ _ (puts-then _ _ _ _ _ _ _ _ (c .before .before .before .before .before .before .before .put .ensures) (c .before
+    .before .put2 .ensures))
     (point-none _ _ _ _ (c .before .before .before .before .before .before .before .before .before .before .points .ensures .0) (omega arith))
 
 pub put-point-spec : {M : Type 1} → statement M

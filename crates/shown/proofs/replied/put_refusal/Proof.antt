@@ -39,8 +39,11 @@ same-length c = search needs
 
 returns : tie.Need-returns
 unfolding refusalText
-returns c = puts-then _ _ _ _ _ _ _ _ (puts-then _ _ _ _ _ _ _ _ (c .before .before .before .before .before .before .before .before .before .before .before .before .before .before .before .before .put-natural .ensures) (c .before .before .before .before .before .before .before .before .before .before .before .put .ensures)) (puts-same _ _ _ _ _ _ (c .before .before .put2 .ensures)
-    (c .before .before .before .before .front .ensures ∙ written-read 9 _ _ _ _ (c .before .before .before .before .before .before .before .write-name .ensures) (omega arith)))
+returns c = puts-then _ _ _ _ _ _ _ _ (puts-then _ _ _ _ _ _ _ _ (c .before .before .before .before .before .before .before .before .before .before
+    .before .before .before .before .before .before .put-natural .ensures) (c .before .before .before .before .before .before .before .before .before
+    .before .before .put .ensures)) (puts-same _ _ _ _ _ _ (c .before .before .put2 .ensures)
+    (c .before .before .before .before .front .ensures ∙ written-read 9 _ _ _ _ (c .before .before .before .before .before .before .before .write-name
+    .ensures) (omega arith)))
 
 pub put-refusal-spec : {M : Type 1} → statement M
 put-refusal-spec =

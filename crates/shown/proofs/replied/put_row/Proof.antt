@@ -28,7 +28,9 @@ same-length c = search needs
 
 returns : tie.Need-returns
 unfolding rowText
-returns c = puts-then _ _ _ _ _ _ _ _ (puts-then _ _ _ _ _ _ _ _ (c .before .before .before .before .before .before .before .before .before .before .before .before .put-natural .ensures) (c .before .before .before .before .before .before .before .put-point .ensures)) (c .before .before .put-point2 .ensures)
+returns c = puts-then _ _ _ _ _ _ _ _ (puts-then _ _ _ _ _ _ _ _ (c .before .before .before .before .before .before .before .before .before .before
+    .before .before .put-natural .ensures) (c .before .before .before .before .before .before .before .put-point .ensures)) (c .before .before
+    .put-point2 .ensures)
 
 pub put-row-spec : {M : Type 1} → statement M
 put-row-spec =

@@ -33,8 +33,13 @@ same-length : tie.Need-same-length
 same-length c = search needs
 
 returns : tie.Need-returns
-returns c = puts-same _ _ _ _ _ _ (puts-then _ _ _ _ _ _ _ _ (puts-then _ _ _ _ _ _ _ _ (puts-then _ _ _ _ _ _ _ _ (c .before .before .before .before .before .before .before .before .before .before .before .before .before .before .before .before .before .before .put-heads .ensures) (c .before .before .before .before .before .before .before .before .before .before .before .before .before .before .put-places .ensures)) (c .before .before .before .before .before .before .before .put-rows .ensures)) (c .before .before .put .ensures))
-    (table-told _ _ _ _ _ (c .before .before .before .before .before .before .before .before .before .before .before .points .ensures .0) (c .before .before .before .before .before .before .before .before .before .before .points2 .ensures .0) (c .before .before .before .before .before .before .before .before .before .larger .ensures))
+returns c = puts-same _ _ _ _ _ _ (puts-then _ _ _ _ _ _ _ _ (puts-then _ _ _ _ _ _ _ _ (puts-then _ _ _ _ _ _ _ _ (c .before .before .before .before
+    .before .before .before .before .before .before .before .before .before .before .before .before .before .before .put-heads .ensures) (c .before
+    .before .before .before .before .before .before .before .before .before .before .before .before .before .put-places .ensures)) (c .before .before
+    .before .before .before .before .before .put-rows .ensures)) (c .before .before .put .ensures))
+    (table-told _ _ _ _ _ (c .before .before .before .before .before .before .before .before .before .before .before .points .ensures .0) (c .before
+    .before .before .before .before .before .before .before .before .before .points2 .ensures .0) (c .before .before .before .before .before .before
+    .before .before .before .larger .ensures))
 
 pub put-table-spec : {M : Type 1} → statement M
 put-table-spec =
