@@ -1,7 +1,6 @@
 // Replays a recorded night: reads the trace that its argument names, or standard input, asks the door afresh and writes the
 // five lines, the pairs that differ, or one pair in words. What goes wrong is said on standard error.
 mod help;
-mod list;
 mod morning;
 mod wish;
 
