@@ -197,8 +197,8 @@ pub fn write_reading(number: u32, place: usize, reading: Num, out: &mut [u8]) ->
     requires { ⌜ 4096 ≤ length (now out) ⌝ }
     ensures { λ r. ⌜ Written 4096 (now (out .entry)) 0 (readingLine number place (reading .0)) (now (out .exit)) r ⌝ }
 {
-    let a = write_judged(number, place, out, 0);
-    let b = write_next(reading, out, a);
+    let next = write_judged(number, place, out, 0);
+    let b = write_next(reading, out, next);
     out[b] = b'\n';
     b + 1
 }

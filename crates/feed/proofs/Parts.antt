@@ -3,10 +3,9 @@
 use mathlib.Core.Path.{_≡_, refl, sym, ap, _∙_}
 use mathlib.Core.List.{List, [], _∷_, _++_}
 use Prim.Native.Nat.{ℕ, _+_, _-_, _≤_, _<_}
-use native.Mathlib.Numerals.{add-one}
 use native.Mathlib.Omega.{arith}
-use lib.ListN.{length, take, drop, getD, length-drop}
-use lib.Seq.{take-suc, take-add, take-all}
+use lib.ListN.{length, take, drop, length-drop}
+use lib.Seq.{take-add, take-all}
 use Rattle.feed.specs.Parts.{fed, fedParts, uncut}
 
 module _ {S : Type 0} (step : S → ℕ → S) where
@@ -47,15 +46,6 @@ module _ {S : Type 0} {step : S → ℕ → S} {s₀ : S} where
         let further = rw here at (m .fed-is) ∙ ap (λ (r : S). fed step r (take n (drop i part))) (p .fed-is)
         ∙ sym (fed-more step s₀ (take i part) (take n (drop i part))) in
         record { within = omega (arith, p .within); fed-is = rw take-add further }
-
-    -- one byte
-    pub one-passed : {s′ : S} → i < length part → s′ ≡ step s (getD part i 0) → Passed step s₀ part s′ (i + 1)
-    unfolding fed
-    one-passed {s′} l e =
-        let front : take (i + 1) part ≡ take i part ++ getD part i 0 ∷ [] = rw (add-one, take-suc part i 0 l) in
-        let further = e ∙ ap (λ (r : S). step r (getD part i 0)) (p .fed-is)
-        ∙ sym (fed-more step s₀ (take i part) (getD part i 0 ∷ [])) in
-        record { within = omega arith; fed-is = rw front further }
 
     pub all-passed : length part ≤ i → s ≡ fed step s₀ part
     all-passed l = rw (take-all i part l) at (p .fed-is)

@@ -15,13 +15,13 @@ use borrow.Author.Tests.{lt-ltb, le-ltb, ltb-true, ltb-false, leb-true, leb-fals
 use Rattle.wire.specs.Start.{behind}
 use Rattle.feed.specs.declared.Turn.{Turn}
 use Rattle.pairs.specs.Cut.{Pair, startsPair, pairIn, pairSize, cutIn, cut}
-use Rattle.feed.specs.Parts.{fed, fedParts, uncut}
+use Rattle.feed.specs.Parts.{fed}
 use Rattle.feed.specs.declared.Handed.{Handed}
 use Rattle.feed.specs.Feed.{capped, folded, howMany, heldRoom, Feed, blank, stepped, feedOf, zeros, heldOf, feedIn, Puts, ahead}
 use Rattle.feed.specs.Feed.{Leaves, Hands, afterByte, afterPair, afterTurn, given}
 use Rattle.pairs.proofs.Cutting.{both, not-both-ways, left-starts-none, cut-more, cut-none, cut-one, just-whole}
 use Rattle.pairs.proofs.Cutting.{none-so-long, Alone, front-pair}
-use Rattle.feed.proofs.Parts.{parts, Moves, Passed, more-passed}
+use Rattle.feed.proofs.Parts.{Moves, Passed, more-passed}
 
 -- ---- the fold
 
@@ -138,10 +138,6 @@ module _ {A : Type 0} (most : ℕ) (small : most ≤ 128) (add : A → Pair → 
   pub took : (bytes : List ℕ) → fed (stepped most add) (blank none) bytes ≡ feedOf most add none bytes
   took bytes = rw (← nothing-read) (fed-of [] bytes)
 
-  -- in parts
-  pub took-parts : (ps : List (List ℕ)) → fedParts (stepped most add) (blank none) ps ≡ feedOf most add none (uncut ps)
-  took-parts ps = parts (stepped most add) (blank none) ps ∙ took (uncut ps)
-
   -- one pair and no more
   pub at-once : (p : List ℕ) → startsPair most p ≡ true → behind (behind p) ≡ []
       → fed (stepped most add) (blank none) p ≡ blank (add none (pairIn p))
@@ -186,18 +182,6 @@ module _ {most : ℕ} {held : List ℕ} {rest b : ℕ} {held′ : List ℕ} {tur
   -- and all of them are kept
   kept-all : rest < heldRoom → take heldRoom (take rest held ++ b ∷ []) ≡ take rest held ++ b ∷ []
   kept-all l = take-all heldRoom _ (simp (length-append, length-take) (omega arith))
-
-  -- the bytes of a whole pair, where they stay
-  pub put-kept : {A : Type 0} (a : A) → turn .whole ≡ true
-      → feedIn held′ (turn .rest) a ≡ record {
-        kept = take heldRoom (take rest held ++ b ∷ []);
-        rest = capped (rest + 1);
-        gathered = a;
-      }
-  put-kept a e =
-      let w = whole-at e in
-      let next : capped (rest + 1) ≡ rest + 1 = omega (arith, w .0) in
-      rw (p .rest-is, p .held-is, next, kept-all (w .0), added (w .0))
 
   module _ {A : Type 0} (add : A → Pair → A) (a : A) where
     pub put-whole : turn .whole ≡ true → feedIn held′ 0 (add a (pairIn (take (turn .rest) held′)))

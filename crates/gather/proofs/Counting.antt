@@ -86,9 +86,6 @@ module _ (t : List ℕ) (count K second l from : ℕ) where
               let s : start ≡ c = se ∙ rw (te, ne-eqb l second (λ e. o (e ∙ z))) in
               q .one z ∙ ap (λ k. formed K (drop k (termsOf t count 0)) l) s
 
-pub none-counted : (t : List ℕ) (count K second from : ℕ) → Counted t count K second 0 from 0
-none-counted t count K second from = record { one = λ z. sym (formed-zero K (drop from (termsOf t count 0))); most = omega arith }
-
 -- the last argument
 pub last-counted : (t : List ℕ) (count K second from r : ℕ) → count ≤ 10 → r + from ≡ count → Counted t count K second 1 from r
 unfolding mostFormed

@@ -102,11 +102,6 @@ module _ (text page : List ℕ) (at : ℕ) (page′ : List ℕ) (i end : ℕ) (g
 
 -- what was put on an empty page is read there
 module _ (page text page′ : List ℕ) (end : ℕ) (w : Puts page 0 text page′ end) where
-  pub page-fits : end ≤ length page′
-  unfolding fitting
-  page-fits =
-      omega (arith, w .ends, ap length (w .holds), length-sets page 0 (fitting page 0 text), length-take (length page - 0) text)
-
   pub page-read : take end page′ ≡ take (length page) text
   unfolding fitting
   page-read =

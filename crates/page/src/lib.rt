@@ -27,8 +27,8 @@ pub fn put_natural(word: &[u8], n: u64, page: &mut [u8], at: usize) -> usize
 {
     let mut digits = [0u8; 20];
     let k = spell::write_natural(n, &mut digits, 0);
-    let a = put(word, page, at);
-    put(&digits[..k], page, a)
+    let next = put(word, page, at);
+    put(&digits[..k], page, next)
 }
 
 pub fn put_number(word: &[u8], n: Num, page: &mut [u8], at: usize) -> usize
@@ -36,8 +36,8 @@ pub fn put_number(word: &[u8], n: Num, page: &mut [u8], at: usize) -> usize
 {
     let mut digits = [0u8; 20];
     let k = spell::write_number(n, &mut digits, 0);
-    let a = put(word, page, at);
-    put(&digits[..k], page, a)
+    let behind = put(word, page, at);
+    put(&digits[..k], page, behind)
 }
 
 // A digit of a number in hexadecimal, its last.

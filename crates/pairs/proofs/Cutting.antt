@@ -5,10 +5,10 @@ use mathlib.Core.Bool.{Bool, true, false, _&&_, false≢true}
 use mathlib.Core.List.{List, [], _∷_, _++_, append-assoc}
 use Prim.Native.Nat.{ℕ, zero, suc, _+_, _-_, _≤_, _<_}
 use native.Mathlib.Omega.{arith}
-use lib.Dec.{leb, ltb}
+use lib.Dec.{leb}
 use lib.ListN.{length, take, drop, take-append-drop, length-append, length-drop, drop-of-length-le, List·getD-append}
 use lib.Seq.{take-append-le, drop-append-le, length-take-le}
-use borrow.Author.Tests.{leb-true, leb-false, le-leb, ltb-true, ltb-false}
+use borrow.Author.Tests.{leb-true, leb-false, le-leb}
 use Rattle.wire.specs.Words.{wordAt}
 use Rattle.wire.specs.Start.{shortest, isLength, lengthField, startsRecord, recordIn, behind}
 use Rattle.pairs.specs.Cut.{Pair, startsPair, pairIn, pairSize, cutIn, cut, joined}
@@ -189,14 +189,6 @@ pub none-so-long : (most : ℕ) (a : List ℕ) (b : ℕ) → most + most ≤ len
 none-so-long most a b long none =
     refuted (λ e. let w = whole-pair most (a ++ b ∷ []) e in
     not-both-ways (starts-less most a (b ∷ []) e (omega (arith, w .0 .bound, w .1 .bound))) none)
-
-pub within-two : (most : ℕ) (a : List ℕ) (b : ℕ) → startsPair most a ≡ false → startsPair most (a ++ b ∷ []) ≡ true
-    → length a < most + most
-within-two most a b none e = by (ltb (length a) (most + most)) refl
-  where
-    by : (t : Bool) → ltb (length a) (most + most) ≡ t → length a < most + most
-    by true l = ltb-true _ _ l
-    by false l = absurd (not-both-ways e (none-so-long most a b (ltb-false _ _ l) none))
 
 -- one byte that makes a pair whole is its last
 pub just-whole : (most : ℕ) (a : List ℕ) (b : ℕ) → startsPair most a ≡ false → startsPair most (a ++ b ∷ []) ≡ true

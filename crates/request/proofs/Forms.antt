@@ -8,7 +8,7 @@ use lib.Dec.{ltb, eqb}
 use borrow.Author.Tests.{lt-ltb, le-ltb, ltb-true, ltb-false, eq-eqb, ne-eqb, eqb-true, not-false}
 use Rattle.request.specs.declared.Head.{Head}
 use Rattle.request.specs.Head.{mostDegree, mostN, byForm, degree, longest}
-use Rattle.request.specs.Refusal.{notKind, notDegree}
+use Rattle.request.specs.Refusal.{notDegree}
 
 -- two tests that hold together are one test
 same-test : (a b c d : ℕ) → (a < b → c < d) → (c < d → a < b) → ltb a b ≡ ltb c d
@@ -41,16 +41,6 @@ at-outer h x y no2 = go (eqb (h .form) 1) (rw (ne-eqb _ _ no2) refl)
     go : (b : Bool) → cond (eqb (h .form) 2) y x ≡ x → cond b x (cond (eqb (h .form) 2) y x) ≡ x
     go true e = refl
     go false e = e
-
--- and so do forms 1 and 2, where KIND lets the form pass and it is not 3
-pub at-others : {A : Type 0} (h : Head) (x z : A) → notKind h ≡ false → (h .form ≡ 3 → ⊥) → byForm h x x z ≡ x
-unfolding notKind byForm
-at-others h x z kind no3 = go (eqb (h .form) 1) (eqb (h .form) 2) (rw (ne-eqb _ _ no3) at kind)
-  where
-    go : (a b : Bool) → not (a || b || false) ≡ false → cond a x (cond b x z) ≡ x
-    go true b e = refl
-    go false true e = refl
-    go false false e = let never : _≡_ {A = ℕ} 0 1 = cc in absurd (omega arith)
 
 -- the degree is the first degree, or more
 pub first-le : (h : Head) → h .first ≤ degree h

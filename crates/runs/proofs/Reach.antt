@@ -1,10 +1,9 @@
--- A walk depends on the net only as far as its arguments reach: over a triangle whatever they are, along one row where all of
--- them go over i. Assumes nothing.
+-- A walk depends on the net only as far as its arguments reach: over a triangle, whatever they are. Assumes nothing.
 use mathlib.Core.Path.{_≡_, sym, _∙_, ap₂}
 use mathlib.Core.List.{List, [], _∷_}
 use Prim.Native.Nat.{ℕ, zero, suc, _+_, _≤_}
 use native.Mathlib.Omega.{arith}
-use lib.IntN.{ℤ, pos}
+use lib.IntN.{pos}
 use Rattle.whole.specs.Choose.{choose}
 use Rattle.whole.proofs.Ring.{_⊕_, _⊗_}
 use Rattle.net.specs.Net.{Net}
@@ -12,7 +11,7 @@ use Rattle.net.specs.Blossom.{Argument, alongU, alongV, within, step}
 use Rattle.net.proofs.Every.{Every, none, more}
 use Rattle.runs.specs.Terms.{Term, Reading}
 use Rattle.runs.specs.Walk.{walk}
-use Rattle.runs.specs.Ride.{leaf, below, pathTerm, pathTerms}
+use Rattle.runs.specs.Ride.{leaf}
 use Rattle.runs.proofs.Walk.{walk-zero, walk-none, walk-cons}
 
 -- a term's step leaves nets that agree as far as so many arguments reach agreeing as far as one fewer do
@@ -59,21 +58,3 @@ walk-reads F k r T left begun R s p q e =
 
 pub leaf-reads : Reads leaf 0
 leaf-reads = record { reads = λ R s p q e. leaf-same R s p q (e 0 0 (omega arith)) }
-
--- ---- a row
-abbrev Along : ℕ → Net → Net → Type 0
-Along k p q = (i : ℕ) → i ≤ k → p i 0 ≡ q i 0
-
-step-along : (u : ℤ) (k : ℕ) (p q : Net) → Along (suc k) p q → Along k (step (alongU u) p) (step (alongU u) q)
-unfolding step
-step-along u k p q e i h = rw (e i (omega arith), e (suc i) (omega arith))
-
-terms-along : (N n : ℕ) (u : ℕ → ℤ) (f : ℕ → ℕ) → Every (Keeps Along) (below n (λ c. pathTerm N (λ c. alongU (u c)) (f c)))
-unfolding below pathTerm
-terms-along N zero u f = none
-terms-along N (suc n) u f = more (λ left p q. step-along (u (f 0)) left p q) (terms-along N n u (λ c. f (suc c)))
-
-pub row-reads : (N : ℕ) (u : ℕ → ℤ) (R left begun s : ℕ) (p q : Net) → Along left p q
-    → walk (pathTerms N (λ c. alongU (u c))) left begun (leaf R) s p ≡ walk (pathTerms N (λ c. alongU (u c))) left begun (leaf R) s q
-unfolding pathTerms
-row-reads N u R = walk-reach Along (leaf R) (λ s p q h. leaf-same R s p q (h 0 (omega arith))) _ (terms-along N (suc N) u (λ c. c))

@@ -158,10 +158,6 @@ differAt = 116 ∷ 104 ∷ 101 ∷ 121 ∷ 32 ∷ 100 ∷ 105 ∷ 102 ∷ 102 �
 abbrev pub fromNought : List ℕ
 fromNought = 44 ∷ 32 ∷ 99 ∷ 111 ∷ 117 ∷ 110 ∷ 116 ∷ 101 ∷ 100 ∷ 32 ∷ 102 ∷ 114 ∷ 111 ∷ 109 ∷ 32 ∷ 48 ∷ 10 ∷ []
 
--- `[`
-abbrev pub openMark : List ℕ
-openMark = 91 ∷ []
-
 -- `]`
 abbrev pub closeMark : List ℕ
 closeMark = 93 ∷ []

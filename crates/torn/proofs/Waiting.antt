@@ -1,5 +1,5 @@
--- Laws of a pair that is cut off: it is not whole; where none is cut off, bytes that come behind make none whole; and it is
--- within two records. Assumes nothing.
+-- Laws of a pair that is cut off: where none is, bytes that come behind make none whole; and it is within two records. Assumes
+-- nothing.
 use mathlib.Core.Path.{_≡_, refl, sym}
 use mathlib.Core.Bool.{Bool, true, false, _&&_, _||_, false≢true}
 use mathlib.Core.List.{List, _++_}
@@ -7,10 +7,10 @@ use Prim.Native.Nat.{ℕ, _+_, _≤_, _<_}
 use native.Mathlib.Omega.{arith}
 use lib.Dec.{ltb}
 use lib.ListN.{length}
-use borrow.Author.Tests.{le-ltb, ltb-true, ltb-false}
+use borrow.Author.Tests.{ltb-true, ltb-false}
 use Rattle.wire.specs.Start.{shortest, isLength, lengthField, startsRecord, behind}
 use Rattle.pairs.specs.Cut.{startsPair}
-use Rattle.pairs.proofs.Cutting.{both, not-both-ways, refuted, is-length, length-is, WholeRecord, whole, starts, whole-pair}
+use Rattle.pairs.proofs.Cutting.{both, not-both-ways, refuted, is-length, length-is, WholeRecord, whole, starts}
 use Rattle.pairs.proofs.Cutting.{at-least-two, field-more, behind-more, behind-size}
 use Rattle.torn.specs.Window.{cutOff, waits}
 
@@ -27,15 +27,6 @@ and-false true e = e
 and-false false e = refl
 
 module _ (most : ℕ) (w : List ℕ) where
-  -- a whole record is not cut off
-  whole-not-cut : WholeRecord most w → cutOff most w ≡ false
-  unfolding cutOff
-  whole-not-cut v = rw (
-    le-ltb (length w) 2 (at-least-two v),
-    le-ltb (length w) (lengthField w) (v .there),
-    length-is most (lengthField w) (v .least) (v .bound),
-  )
-
   -- what is not cut off has a length, and is whole where that is one
   pub not-cut : cutOff most w ≡ false → (2 ≤ length w) × (isLength most (lengthField w) ≡ true → lengthField w ≤ length w)
   unfolding cutOff
@@ -66,12 +57,6 @@ module _ (most : ℕ) (w : List ℕ) where
           omega (arith, ltb-true (length w) (lengthField w) (v .1), is-length most (lengthField w) (v .0) .1)
 
 module _ (most : ℕ) (w : List ℕ) where
-  pub starts-not-waiting : startsPair most w ≡ true → waits most w ≡ false
-  unfolding waits
-  starts-not-waiting e =
-      let v = whole-pair most w e in
-      rw (whole-not-cut most w (v .0), starts most w (v .0)) (whole-not-cut most (behind w) (v .1))
-
   pub none-will-start : (x : List ℕ) → startsPair most w ≡ false → waits most w ≡ false → startsPair most (w ++ x) ≡ false
   unfolding waits startsPair
   none-will-start x n q = by (startsRecord most w) refl

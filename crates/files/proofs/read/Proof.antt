@@ -23,8 +23,8 @@ same-length c = search needs
 returns : tie.Need-returns
 returns c = (
   search needs,
-  came _ _ _ _ _ _ (search needs) (c .before .further .ensures)
-      (c .before .before .wide .ensures) refl,
+  came _ _ (c .before .before .before .count .result) _ _ _ (c .before .before .before .count .ensures .0)
+      (c .before .further .ensures) (c .before .before .wide .ensures) refl,
 )
 
 pub read-spec : {M : Type 1} → statement M
