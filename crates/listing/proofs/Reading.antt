@@ -13,11 +13,12 @@ use Rattle.feed.specs.Parts.{fed}
 use Rattle.feed.proofs.Parts.{fed-more, Passed, none-passed, all-passed}
 use Rattle.feed.proofs.Reading.{turn-passed, took}
 use Rattle.files.specs.declared.Stream.{Stream}
-use Rattle.files.specs.Stream.{through-none, through-more, Wrote, wrote-none, wrote-more}
+use Rattle.files.specs.Stream.{through-none, through-more}
 use Rattle.listing.specs.declared.State.{State}
 use Rattle.listing.specs.declared.Reader.{Reader}
 use Rattle.listing.specs.Tale.{Tale, untold, tells, taleOf, closing, written}
-use Rattle.listing.specs.Contract.{taleIn, feedWith, step, Adds, Takes, Reads, Lists}
+use Rattle.listing.specs.Contract.{taleIn, feedWith, step, Sends, Adds, Takes, Reads, Lists}
+use Rattle.listing.proofs.Telling.{sends-none, sends-more}
 
 -- ---- a part, turn by turn: the bytes before place i were taken
 
@@ -25,11 +26,11 @@ pub record Going (wanted : ℕ) (part held₀ : List ℕ) (rest₀ : ℕ) (s₀ 
   pub more : List ℕ
   pub passed : (text : List ℕ)
       → Passed (step wanted) (feedIn held₀ rest₀ (taleIn s₀ text)) part (feedIn held rest (taleIn s (text ++ more))) i
-  pub wrote : Wrote (s₀ .out) more (s .out)
+  pub sent : Sends (s₀ .out) more (s .out)
 
 module _ (wanted : ℕ) (part held₀ : List ℕ) (rest₀ : ℕ) (s₀ : State) where
   pub going-none : Going wanted part held₀ rest₀ s₀ held₀ rest₀ s₀ 0
-  going-none = record { more = []; passed = λ text. rw append-nil (none-passed part); wrote = wrote-none (s₀ .out) }
+  going-none = record { more = []; passed = λ text. rw append-nil (none-passed part); sent = sends-none (s₀ .out) }
 
   module _ {held : List ℕ} {rest : ℕ} {s : State} {i : ℕ} (g : Going wanted part held₀ rest₀ s₀ held rest s i) where
     module _ (l : i < length part) {held′ : List ℕ} {r : Handed}
@@ -47,12 +48,12 @@ module _ (wanted : ℕ) (part held₀ : List ℕ) (rest₀ : ℕ) (s₀ : State)
       going-more {s′} a = record {
         more = g .more ++ a .more;
         passed = λ text. rw (← append-assoc text (g .more) (a .more), ← a .after (text ++ g .more)) (turned text .1);
-        wrote = wrote-more (s₀ .out) (g .more) (s .out) (a .more) (s′ .out) (g .wrote) (a .wrote);
+        sent = sends-more (s₀ .out) (g .more) (s .out) (a .more) (s′ .out) (g .sent) (a .sent);
       }
 
     pub going-all : length part ≤ i
         → Takes wanted (record { held = held₀; rest = rest₀; state = s₀ }) part (record { held = held; rest = rest; state = s })
-    going-all l = record { more = g .more; after = λ text. all-passed (g .passed text) l; wrote = g .wrote }
+    going-all l = record { more = g .more; after = λ text. all-passed (g .passed text) l; sent = g .sent }
 
 -- ---- parts one after the other
 
@@ -62,7 +63,7 @@ module _ (wanted : ℕ) where
   reads-none i r = record {
     bytes = [];
     went = through-none i;
-    takes = record { more = []; after = λ text. rw append-nil; wrote = wrote-none (r .state .out) };
+    takes = record { more = []; after = λ text. rw append-nil; sent = sends-none (r .state .out) };
   }
 
   pub reads-more : {i i′ i″ : Stream} {r r′ r″ : Reader} → Reads wanted i r i′ r′ → Reads wanted i′ r′ i″ r″ → Reads wanted i r i″ r″
@@ -78,7 +79,7 @@ module _ (wanted : ℕ) where
               ap (feedWith r″) (sym (append-assoc text (a .more) (b .more))) ∙ b .after (text ++ a .more)
               ∙ ap (λ (s : Feed Tale). fed (step wanted) s (q .bytes)) (a .after text)
               ∙ sym (fed-more (step wanted) (feedWith r text) (p .bytes) (q .bytes));
-          wrote = wrote-more (r .state .out) (a .more) (r′ .state .out) (b .more) (r″ .state .out) (a .wrote) (b .wrote);
+          sent = sends-more (r .state .out) (a .more) (r′ .state .out) (b .more) (r″ .state .out) (a .sent) (b .sent);
         };
       }
 
@@ -92,7 +93,7 @@ module _ (wanted : ℕ) (input out i : Stream) (r : Reader) (p : Reads wanted in
   unfolding taleOf blank
   whole-is = p .takes .after [] ∙ took longestRecord (omega arith) (tells replyOf wanted) untold (p .bytes)
 
-  pub told-all : (out′ : Stream) → Wrote (r .state .out) (closing wanted (i .failed) (r .state .offset) (r .rest) (take (r .rest) (r .held))) out′
+  pub told-all : (out′ : Stream) → Sends (r .state .out) (closing wanted (i .failed) (r .state .offset) (r .rest) (take (r .rest) (r .held))) out′
       → Lists wanted input out
       (record { input = i; out = out′; calls = r .state .calls; differ = r .state .differ; rest = r .rest })
   unfolding written
@@ -102,5 +103,5 @@ module _ (wanted : ℕ) (input out i : Stream) (r : Reader) (p : Reads wanted in
     calls-is = ap (λ (s : Feed Tale). s .gathered .calls) whole-is;
     differ-is = ap (λ (s : Feed Tale). s .gathered .differ) whole-is;
     rest-is = ap (λ (s : Feed Tale). s .rest) whole-is;
-    wrote = rw (← whole-is) (wrote-more out (p .takes .more) (r .state .out) _ out′ (p .takes .wrote) w);
+    sent = rw (← whole-is) (sends-more out (p .takes .more) (r .state .out) _ out′ (p .takes .sent) w);
   }

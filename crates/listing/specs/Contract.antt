@@ -2,7 +2,7 @@
 -- them. Above it what its parts promise: what was told so far is not kept, so that they say what they add to it, whatever it is.
 -- Assumes nothing.
 use mathlib.Core.Path.{_≡_}
-use mathlib.Core.List.{List, _++_}
+use mathlib.Core.List.{List, [], _++_}
 use Prim.Native.Nat.{ℕ}
 use Rattle.door.specs.Contract.{replyOf}
 use Rattle.pairs.specs.Cut.{longestRecord}
@@ -26,17 +26,22 @@ feedWith r text = feedIn (r .held) (r .rest) (taleIn (r .state) text)
 abbrev pub step : ℕ → Feed Tale → ℕ → Feed Tale
 step wanted = stepped longestRecord (tells replyOf wanted)
 
+-- this was told, and went out; where that is nothing, the output is the one that was lent
+pub record Sends (out : Stream) (text : List ℕ) (out′ : Stream) : Type 0 where
+  pub wrote : Wrote out text out′
+  pub none : text ≡ [] → out′ ≡ out
+
 -- from one state to another so much more was told, and went out
 pub record Adds (add : Tale → Tale) (s s′ : State) : Type 0 where
   pub more : List ℕ
   pub after : (text : List ℕ) → add (taleIn s text) ≡ taleIn s′ (text ++ more)
-  pub wrote : Wrote (s .out) more (s′ .out)
+  pub sent : Sends (s .out) more (s′ .out)
 
 -- these bytes were taken
 pub record Takes (wanted : ℕ) (r : Reader) (bytes : List ℕ) (r′ : Reader) : Type 0 where
   pub more : List ℕ
   pub after : (text : List ℕ) → feedWith r′ (text ++ more) ≡ fed (step wanted) (feedWith r text) bytes
-  pub wrote : Wrote (r .state .out) more (r′ .state .out)
+  pub sent : Sends (r .state .out) more (r′ .state .out)
 
 -- just these were read, and taken
 pub record Reads (wanted : ℕ) (input : Stream) (r : Reader) (input′ : Stream) (r′ : Reader) : Type 0 where
@@ -51,4 +56,4 @@ pub record Lists (wanted : ℕ) (input out : Stream) (r : Listed) : Type 0 where
   pub calls-is : r .calls ≡ taleOf replyOf wanted bytes .gathered .calls
   pub differ-is : r .differ ≡ taleOf replyOf wanted bytes .gathered .differ
   pub rest-is : r .rest ≡ taleOf replyOf wanted bytes .rest
-  pub wrote : Wrote out (written wanted (r .input .failed) (taleOf replyOf wanted bytes)) (r .out)
+  pub sent : Sends out (written wanted (r .input .failed) (taleOf replyOf wanted bytes)) (r .out)

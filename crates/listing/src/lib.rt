@@ -11,9 +11,8 @@ ghost use lib.ListN.{length, take};
 ghost use Rattle.door.specs.Contract.{replyOf};
 ghost use Rattle.pairs.specs.Cut.{pairIn};
 ghost use Rattle.feed.specs.Feed.{capped, given};
-ghost use Rattle.files.specs.Stream.{Wrote};
 ghost use Rattle.listing.specs.Tale.{Tale, toldOf, differing as differingOf, tells, closing};
-ghost use Rattle.listing.specs.Contract.{Adds, Takes, Reads, Lists};
+ghost use Rattle.listing.specs.Contract.{Sends, Adds, Takes, Reads, Lists};
 
 // How many pairs there were, where the next one begins, how many of those asked for differ, and the output.
 struct State {
@@ -86,7 +85,7 @@ fn tell(
     today: &[u8],
     out: Stream,
 ) -> Stream
-    ensures { λ r. ⌜ Wrote out (toldOf wanted alike number offset (now (request .entry)) (now (reply .entry)) (now (today .entry))) r ⌝ }
+    ensures { λ r. ⌜ Sends out (toldOf wanted alike number offset (now (request .entry)) (now (reply .entry)) (now (today .entry))) r ⌝ }
 {
     if wanted == 0 {
         if alike {
@@ -216,7 +215,7 @@ fn read_all(wanted: u64, input: Stream, reader: Reader, part: &mut [u8]) -> Nigh
 
 // Where the reading ended is told where all that differ are asked for and no read failed.
 fn close(wanted: u64, failed: bool, reader: Reader) -> Stream
-    ensures { λ r. ⌜ Wrote (reader .state .out) (closing wanted failed (reader .state .offset) (reader .rest) (take (reader .rest) (reader .held))) r ⌝ }
+    ensures { λ r. ⌜ Sends (reader .state .out) (closing wanted failed (reader .state .offset) (reader .rest) (take (reader .rest) (reader .held))) r ⌝ }
 {
     let state = reader.state;
     let out = state.out;

@@ -1,7 +1,7 @@
 -- `listing::tell` meets its contract. Assumes nothing.
 use mathlib.Core.Path.{refl}
 use native.Mathlib.Omega.{arith}
-use Rattle.listing.proofs.Telling.{paged, told-alike, told-line, told-other, told-page}
+use Rattle.listing.proofs.Telling.{paged, some-line, some-page, told-alike, told-line, told-other, told-page}
 use borrow.Author.Needs.{needs}
 use Rattle.listing.proofs.tell.Statement.{statement}
 use Rattle.listing.proofs.tell.Tie as tie
@@ -28,7 +28,7 @@ returns-2 : tie.Need-returns-2
 returns-2 c =
     let put = c .before .before .before .before in
     told-line _ _ _ _ _ _ _ _ _ (omega arith) (put .before .before .if2 .left)
-    (paged _ _ _ _ _ _ _ refl (put .put-entry .ensures) (c .before .front .ensures) (c .write .ensures))
+    (paged _ _ _ _ _ _ _ (some-line _ _ _ _ _) refl (put .put-entry .ensures) (c .before .front .ensures) (c .write .ensures))
 
 returns-3 : tie.Need-returns-3
 returns-3 c = told-other _ _ _ _ _ _ _ _ (λ e. omega arith) (λ e. omega arith)
@@ -52,7 +52,7 @@ returns-4 : tie.Need-returns-4
 returns-4 c =
     let put = c .before .before .before .before in
     told-page _ _ _ _ _ _ _ _ _ (λ e. omega arith) (omega arith)
-    (paged _ _ _ _ _ _ _ refl (put .put-page .ensures) (c .before .front2 .ensures) (c .write2 .ensures))
+    (paged _ _ _ _ _ _ _ (some-page _ _ _ _ _) refl (put .put-page .ensures) (c .before .front2 .ensures) (c .write2 .ensures))
 
 pub tell-spec : {M : Type 1} → statement M
 tell-spec =
