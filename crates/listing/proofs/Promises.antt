@@ -1,5 +1,6 @@
--- What a told night says of the trace: a pair is told by how many pairs stand before it and how many bytes these are; the numbers are those
--- of the replay; and the offset at which the reading ended, with the bytes that are left, is the whole trace. Assumes nothing.
+-- What a told night says of the trace: a pair's number is one more than how many pairs stand before it, and its offset how many bytes these
+-- are; the numbers are those of the replay; and the offset at which the reading ended, with the bytes that are left, is the whole trace.
+-- Assumes nothing.
 use mathlib.Core.Path.{_≡_, refl, ap, _∙_}
 use mathlib.Core.Bool.{Bool, true, false, not, cond}
 use mathlib.Core.List.{List, [], _∷_, _++_}

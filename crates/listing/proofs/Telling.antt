@@ -1,5 +1,5 @@
--- What is told of a pair, and of the end: one law for each way through the definitions; and what a pair adds. What is told is never
--- empty, so that the output stays where nothing is told. Assumes nothing.
+-- What is told of a pair, and of the end: one law for each way through the definitions; and what a pair adds. A line
+-- and a page are never empty: where nothing is told, the output stays. Assumes nothing.
 use mathlib.Core.Path.{_≡_, refl, sym, ap, _∙_}
 use mathlib.Core.Bool.{Bool, true, false, cond}
 use mathlib.Core.List.{List, [], _∷_, _++_, append-nil}
@@ -22,7 +22,7 @@ use Rattle.shown.specs.Page.{shownPage}
 use Rattle.files.specs.declared.Stream.{Stream}
 use Rattle.files.specs.Stream.{Wrote, wrote-none, wrote-more}
 use Rattle.listing.specs.declared.State.{State}
-use Rattle.listing.specs.Tale.{Tale, pageRoom, onPage, toldOf, differing, tells, closing}
+use Rattle.listing.specs.Tale.{Tale, pageRoom, onPage, asked, toldOf, differing, tells, closing}
 use Rattle.listing.specs.Contract.{taleIn, Sends, Adds}
 
 -- ---- nothing was told; and more, one after the other
@@ -104,6 +104,21 @@ module _ (wanted : ℕ) (alike : Bool) (number offset : ℕ) (request reply toda
       → Sends out (toldOf wanted alike number offset request reply today) out′
   unfolding toldOf
   told-page out′ z e w = rw (ne-eqb wanted 0 z, eq-eqb wanted number e) w
+
+-- ---- which of those that differ are counted
+
+module _ (wanted : ℕ) (alike : Bool) (number n m : ℕ) (d : alike ≡ false) where
+  pub counts-each : wanted ≡ 0 → m ≡ capped (n + 1) → m ≡ differing wanted alike number n
+  unfolding differing asked
+  counts-each z e = rw (d, eq-eqb wanted 0 z) e
+
+  pub counts-it : (wanted ≡ 0 → ⊥) → wanted ≡ number → m ≡ capped (n + 1) → m ≡ differing wanted alike number n
+  unfolding differing asked
+  counts-it z i e = rw (d, ne-eqb wanted 0 z, eq-eqb wanted number i) e
+
+  pub counts-no-other : (wanted ≡ 0 → ⊥) → (wanted ≡ number → ⊥) → m ≡ n → m ≡ differing wanted alike number n
+  unfolding differing asked
+  counts-no-other z o e = rw (d, ne-eqb wanted 0 z, ne-eqb wanted number o) e
 
 -- ---- and of the end
 

@@ -1,6 +1,6 @@
 -- What telling a night promises of the bytes that were read, whatever they are: the numbers, and all that was written, are those of
--- them. Above it what its parts promise: what was told so far is not kept, so that they say what they add to it, whatever it is.
--- Assumes nothing.
+-- them; where nothing is told, the output stays. Above it what its parts promise: what was told so far is not kept, so that they say what
+-- they add to it, whatever it is. Assumes nothing.
 use mathlib.Core.Path.{_≡_}
 use mathlib.Core.List.{List, [], _++_}
 use Prim.Native.Nat.{ℕ}
@@ -49,7 +49,7 @@ pub record Reads (wanted : ℕ) (input : Stream) (r : Reader) (input′ : Stream
   pub went : Through input bytes input′
   pub takes : Takes wanted r bytes r′
 
--- a night that was told
+-- a night that was told; that the last read failed is said by the input that is handed back
 pub record Lists (wanted : ℕ) (input out : Stream) (r : Listed) : Type 0 where
   pub bytes : List ℕ
   pub went : Through input bytes (r .input)

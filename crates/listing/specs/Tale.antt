@@ -60,7 +60,7 @@ tells door wanted t pair =
 unfoldable pub taleOf : (List ℕ → List ℕ) → ℕ → List ℕ → Feed Tale
 taleOf door wanted bytes = feedOf longestRecord (tells door wanted) untold bytes
 
--- the closing line: where each pair is asked for and no read failed, where the reading ended and why
+-- the closing line: where each pair is asked for and the last read did not fail, where the reading ended and why
 unfoldable pub closing : ℕ → Bool → ℕ → ℕ → List ℕ → List ℕ
 closing wanted failed offset rest kept =
     cond (eqb wanted 0) (cond failed [] (onPage (endingLine offset rest kept))) []

@@ -213,7 +213,7 @@ fn read_all(wanted: u64, input: Stream, reader: Reader, part: &mut [u8]) -> Nigh
     night
 }
 
-// Where the reading ended is told where all that differ are asked for and no read failed.
+// Where the reading ended is told where all that differ are asked for and the last read did not fail.
 fn close(wanted: u64, failed: bool, reader: Reader) -> Stream
     ensures { λ r. ⌜ Sends (reader .state .out) (closing wanted failed (reader .state .offset) (reader .rest) (take (reader .rest) (reader .held))) r ⌝ }
 {

@@ -7,7 +7,7 @@ use Rattle.listing.proofs.close.Statement.{statement}
 use Rattle.listing.proofs.close.Tie as tie
 
 returns : tie.Need-returns
-returns c = closed-none _ _ _ _ _ _ (c .if1 .taken)
+returns c = closed-none _ _ _ _ _ _ (λ e. omega arith)
 
 returns-2 : tie.Need-returns-2
 returns-2 c = closed-failed _ _ _ _ _ _ (omega arith) (c .if2 .taken)
