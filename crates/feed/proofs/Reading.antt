@@ -1,6 +1,5 @@
 -- The feed that takes a byte at a time gathers the fold of the pairs of what it took: over any fold, for records of at most
--- 128 bytes, as an equation. Parts one after the other, cut anywhere, give what the uncut bytes give; a pair that lies whole
--- in a part may be gathered at once. Assumes nothing.
+-- 128 bytes, as an equation. A pair that lies whole in a part may be gathered at once. Assumes nothing.
 use mathlib.Core.Path.{_≡_, refl, sym, ap, _∙_}
 use mathlib.Core.Bool.{Bool, true, false, cond, _&&_}
 use mathlib.Core.List.{List, [], _∷_, _++_, append-nil, append-assoc}

@@ -20,8 +20,8 @@ ghost use Rattle.io.specs.Counts.{Counts};
 ghost use Rattle.files.specs.Stream.{capped, Through, Wrote};
 use whole::Num;
 
-// An open input or output: how many bytes went through it, and whether a call on it failed, after which nothing more goes
-// through. The descriptor is below 0 where there is none.
+// An open input or output: how many bytes went through it, and whether the last call on it failed; nothing is written to one that
+// failed. The descriptor is below 0 where there is none.
 pub struct Stream {
     fd: i32,
     pub count: u64,
