@@ -1,7 +1,7 @@
 // The inputs that the arguments name, one after the other.
 use args::Kind;
-use files::Stream;
 use files::program::kind_at;
+use streams::Stream;
 
 // The two outputs, the verdict so far, and whether `--` has come.
 struct Sofar {
@@ -81,8 +81,8 @@ fn answer_each(count: usize, by_names: bool, begun: Sofar) -> u64 {
 // All that the arguments ask for.
 pub fn answer_all(by_names: bool, inputs: usize) -> u64 {
     let begun = Sofar {
-        out: files::standard_output(),
-        err: files::standard_error(),
+        out: streams::standard_output(),
+        err: streams::standard_error(),
         verdict: 0,
         rest: false,
     };

@@ -19,8 +19,8 @@ use Rattle.names.specs.Names.{nameOf, firstWidth, firstNumber, byName}
 use Rattle.answers.specs.Answer.{answerOf, complaintOf}
 use Rattle.answers.specs.Contract.{enough, Takes}
 use Rattle.answers.specs.declared.lines.Taken.{Taken}
-use Rattle.files.specs.declared.Stream.{Stream}
-use Rattle.files.specs.Stream.{Through, through-none, through-more, Wrote, wrote-none, wrote-more}
+use Rattle.streams.specs.declared.Stream.{Stream}
+use Rattle.streams.specs.Stream.{Through, through-none, through-more, Wrote, wrote-none, wrote-more}
 use Rattle.asking.specs.Told.{Told, How, shownBy, blamed, keeping, lineEnded, after, untold, toldOf}
 use Rattle.asking.specs.Asked.{Puts, Holds, Carries, Read, ending, Answered}
 use Rattle.asking.specs.declared.State.{State}

@@ -8,8 +8,8 @@ use lib.Dec.{eqb}
 use lib.ListN.{length, take}
 use Rattle.feed.specs.Parts.{fed}
 use Rattle.answers.specs.declared.lines.Taken.{Taken}
-use Rattle.files.specs.Stream.{Through, Wrote}
-use Rattle.files.specs.declared.Stream.{Stream}
+use Rattle.streams.specs.Stream.{Through, Wrote}
+use Rattle.streams.specs.declared.Stream.{Stream}
 use Rattle.asking.specs.Told.{Told, How, shownBy, blamed, after, toldOf}
 use Rattle.asking.specs.declared.State.{State}
 use Rattle.asking.specs.declared.Asked.{Asked}

@@ -3,12 +3,12 @@
 ghost use mathlib.Core.Path.{_≡_};
 ghost use Prim.Native.Nat.{_+_, _≤_};
 ghost use lib.ListN.{length, take};
-ghost use Rattle.files.specs.Stream.{Wrote};
+ghost use Rattle.streams.specs.Stream.{Wrote};
 ghost use Rattle.asking.specs.Told.{shownBy, telling};
 ghost use Rattle.asking.specs.Asked.{Puts, Carries, Read, Answered};
 use answers::Lines;
 use answers::Taken;
-use files::Stream;
+use streams::Stream;
 
 // Where the answering stands: how much of a line is kept, the outputs, and whether a line could not be read.
 struct State {
@@ -41,9 +41,9 @@ fn answered(to: Stream, by_names: bool, line: &[u8], spare: &mut [u8]) -> Stream
 {
     if by_names {
         let n = names::write_by_name(line, spare);
-        return files::write(to, &spare[..n]);
+        return streams::write(to, &spare[..n]);
     }
-    files::write(to, line)
+    streams::write(to, line)
 }
 
 // What is told of a line, after the input's name, goes to standard error, and then the answer to standard output.
@@ -72,10 +72,10 @@ fn put(
             wrong: state.wrong,
         };
     }
-    let named = files::write(also, name);
+    let named = streams::write(also, name);
     State {
         lines,
-        err: files::write(named, &err[..m]),
+        err: streams::write(named, &err[..m]),
         out: answered(to, by_names, &out[..n], spare),
         wrong: true,
     }
@@ -121,7 +121,7 @@ fn take_some(
     requires { ⌜ (8192 ≤ length (now out)) × (8192 ≤ length (now err)) × (length (now out) + 9 ≤ length (now spare)) ⌝ }
     ensures { λ r. ⌜ Read (telling (now (name .entry)) «by_names») (now (line .entry)) input state (now (line .exit)) (r .input) (r .state) ⌝ }
 {
-    let got = files::read(input, part);
+    let got = streams::read(input, part);
     let n = got.count;
     let behind = got.stream;
     let next = take_part(&part[..n], name, by_names, line, out, err, spare, state);

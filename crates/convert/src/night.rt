@@ -1,7 +1,7 @@
 // One night: looked through, converted into a file beside OUT, and that file given its name.
-use files::Stream;
 use files::output;
 use files::told;
+use streams::Stream;
 
 fn trouble(what: &[u8]) -> u64 {
     told::trouble(b"convert", what);
@@ -43,7 +43,7 @@ fn write_beside(
     beside: &[u8],
     wanted: bool,
 ) -> u64 {
-    let progress = files::progress::begin(wanted, input);
+    let progress = progress::begin(wanted, input);
     let renewed = renewal::renew(input, out, progress);
     let read = renewed.input;
     let written = renewed.out;
@@ -107,8 +107,8 @@ pub fn convert(first: usize, second: usize, wanted: bool) -> u64 {
     }
     let seen = renewal::look(
         stream,
-        files::standard_output(),
-        files::progress::begin(wanted, stream),
+        streams::standard_output(),
+        progress::begin(wanted, stream),
     );
     let read = seen.input;
     if read.failed {

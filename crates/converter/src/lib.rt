@@ -62,7 +62,7 @@ fn gather(changed: u64, held: &[u8], size: usize) -> u64
         return changed;
     }
     if ageless(pairs::record_in(&held[..size])) {
-        return feed::more(changed);
+        return capped::more(changed);
     }
     changed
 }

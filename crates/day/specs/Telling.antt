@@ -1,7 +1,7 @@
 -- What the reading of a day promises of the bytes that were read, whatever they are: its sheet and its lines are those of all of
 -- them. Assumes nothing.
 use Rattle.reading.specs.Parts.{Tells}
-use Rattle.files.specs.declared.Stream.{Stream}
+use Rattle.streams.specs.declared.Stream.{Stream}
 use Rattle.pairs.specs.Cut.{longestRecord}
 use Rattle.sheets.specs.Sheet.{sheetIn}
 use Rattle.sheet_lines.specs.Lines.{sheetLines}

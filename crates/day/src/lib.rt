@@ -4,9 +4,9 @@ ghost use Rattle.reading.specs.Parts.{Took};
 ghost use Rattle.daily.specs.Read.{afterPart};
 ghost use Rattle.day.specs.Telling.{Sheets};
 use daily::State;
-use files::Stream;
-use files::progress::Progress;
+use progress::Progress;
 use sheets::Sheet;
+use streams::Stream;
 
 // The input and the state behind a part, and how many bytes came.
 struct Day {
@@ -26,7 +26,7 @@ pub struct Told {
 fn read_part(input: Stream, state: State, part: &mut [u8]) -> Day
     ensures { λ r. ⌜ Took afterPart input state (r .input) (r .state) ⌝ }
 {
-    let got = files::read(input, part);
+    let got = streams::read(input, part);
     let n = got.count;
     let behind = got.stream;
     Day {
@@ -38,20 +38,20 @@ fn read_part(input: Stream, state: State, part: &mut [u8]) -> Day
 
 // Tells how far the reading is, where it is time to.
 fn tell(progress: Progress, input: Stream) -> Progress {
-    if !files::progress::is_due(progress, false) {
+    if !progress::is_due(progress, false) {
         return progress;
     }
     let mut out = [0u8; 64];
     let n = spell::write_named(b"sheet: bytes so far", input.count, &mut out, 0);
-    files::write(files::standard_error(), &out[..n]);
-    files::progress::told(progress)
+    streams::write(streams::standard_error(), &out[..n]);
+    progress::told(progress)
 }
 
 // Nothing says that a trace ends, and a proved loop has to: it counts its turns down from a number that no run uses up.
 fn read_all(input: Stream, state: State, part: &mut [u8], wanted: bool) -> Day
     ensures { λ r. ⌜ Took afterPart input state (r .input) (r .state) ⌝ }
 {
-    let mut progress = files::progress::begin(wanted, input);
+    let mut progress = progress::begin(wanted, input);
     let mut day = Day {
         input,
         state,
@@ -90,7 +90,7 @@ pub fn sheet_all(input: Stream, progress: bool, out: Stream) -> Told
     let n = sheet_lines::write_sheet(sheet, &mut lines);
     Told {
         input: behind,
-        out: files::write(out, &lines[..n]),
+        out: streams::write(out, &lines[..n]),
         sheet,
     }
 }

@@ -1,10 +1,8 @@
 // The closing line: where the reading of a night ended, and why: a length that no record has, a pair that is cut off, or the
 // trace's end.
 ghost use mathlib.Core.Path.{_≡_};
-ghost use Prim.Native.Nat.{_+_};
 ghost use Rattle.wire.specs.Start.{isLength};
 ghost use Rattle.pairs.specs.Cut.{longestRecord};
-ghost use Rattle.feed.specs.Feed.{capped};
 ghost use Rattle.page.specs.Page.{Puts};
 ghost use Rattle.entries.specs.Ending.{noLength, cutOff, wholeTrace, secondEnding, endingLine};
 use page::put;
@@ -18,20 +16,10 @@ fn put_length(size: u64, offset: u64, page: &mut [u8]) -> usize
     put(b"\n", page, b)
 }
 
-// So many more, up to the greatest number.
-fn sum(a: u64, b: u64) -> u64
-    ensures { λ r. ⌜ r ≡ capped (a + b) ⌝ }
-{
-    if b < u64::MAX - a {
-        return a + b;
-    }
-    u64::MAX
-}
-
 fn put_cut(offset: u64, rest: u64, page: &mut [u8]) -> usize
     ensures { λ r. ⌜ Puts (now (page .entry)) 0 (cutOff offset rest) (now (page .exit)) r ⌝ }
 {
-    let a = put_natural(b"cut off at byte ", sum(offset, rest), page, 0);
+    let a = put_natural(b"cut off at byte ", capped::sum(offset, rest), page, 0);
     let b = put_natural(b", in the pair that begins at byte ", offset, page, a);
     put(b"\n", page, b)
 }
@@ -64,7 +52,7 @@ fn put_second(offset: u64, rest: u64, kept: &[u8], page: &mut [u8]) -> usize
     if is_length(second) {
         return put_cut(offset, rest, page);
     }
-    put_length(second, sum(offset, first), page)
+    put_length(second, capped::sum(offset, first), page)
 }
 
 // `rest` bytes were read from the start of the pair that is not whole, at byte `offset`; `kept` are the first of them.

@@ -3,16 +3,13 @@
 use mathlib.Core.Path.{_≡_}
 use mathlib.Core.Bool.{Bool, cond, _&&_}
 use mathlib.Core.List.{List, [], _∷_, _++_}
-use Prim.Native.Nat.{ℕ, suc, _+_, _-_, _^_, _<_, min}
+use Prim.Native.Nat.{ℕ, suc, _+_, _-_, _<_}
 use lib.Dec.{ltb, leb, eqb}
 use lib.ListN.{length, take, drop, set, replicate}
+pub use Rattle.capped.specs.Capped.{capped}
 use Rattle.pairs.specs.Cut.{Pair, startsPair, pairIn, pairSize, cut}
 use Rattle.feed.specs.declared.Turn.{Turn}
 use Rattle.feed.specs.declared.Handed.{Handed}
-
--- numbers are counted in 64 bits and stay at the greatest of these
-abbrev pub capped : ℕ → ℕ
-capped n = min n (2 ^ 64 - 1)
 
 -- ---- of the whole trace
 

@@ -2,9 +2,9 @@
 // function asks anything of its caller.
 ghost use mathlib.Core.Path.{_≡_};
 ghost use mathlib.Core.List.{_++_};
-ghost use Prim.Native.Nat.{_+_, _-_, _≤_};
+ghost use Prim.Native.Nat.{_-_, _≤_};
 ghost use lib.ListN.{length, take, drop};
-ghost use Rattle.feed.specs.Feed.{capped, zeros, heldOf, Puts, Leaves, Hands, afterByte, ahead as aheadOf};
+ghost use Rattle.feed.specs.Feed.{zeros, heldOf, Puts, Leaves, Hands, afterByte, ahead as aheadOf};
 
 // What a byte did: how many bytes there are from the pair's start on, and whether they are a whole pair.
 pub struct Turn {
@@ -23,21 +23,11 @@ pub struct Handed {
 // The bytes that are kept of a pair.
 const HELD: usize = 256;
 
-// One more, up to the greatest number.
-pub fn more(n: u64) -> u64
-    ensures { λ r. ⌜ r ≡ capped (n + 1) ⌝ }
-{
-    if n < u64::MAX {
-        return n + 1;
-    }
-    n
-}
-
 // A byte more.
 fn put(most: usize, held: &mut [u8], rest: u64, b: u8) -> Turn
     ensures { λ r. ⌜ Puts most (now (held .entry)) rest b (now (held .exit)) r ⌝ }
 {
-    let next = more(rest);
+    let next = capped::more(rest);
     let at = rest as usize;
     if held.len() <= at {
         return Turn {

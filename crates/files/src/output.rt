@@ -6,11 +6,12 @@ ghost use Prim.Native.Nat.{_≤_};
 ghost use lib.ListN.{length};
 ghost use Rattle.io.specs.Counts.{Counts};
 ghost use Rattle.libc.specs.Io.{Ended};
-use crate::Stream;
 use crate::call;
 use crate::close;
-use crate::on;
 use libc::PATH_MAX;
+use streams::Stream;
+use streams::descriptor;
+use streams::on;
 
 const LAST: usize = PATH_MAX - 1;
 
@@ -125,13 +126,13 @@ pub fn finish(stream: Stream, name: &[u8], beside: &[u8]) -> bool {
         return false;
     }
     if beside.len() == 0 {
-        return libc::close(stream.fd) == 0;
+        return libc::close(descriptor(stream)) == 0;
     }
-    if !rename(stream.fd, name, beside) {
+    if !rename(descriptor(stream), name, beside) {
         abandon(stream, beside);
         return false;
     }
-    libc::close(stream.fd);
+    libc::close(descriptor(stream));
     true
 }
 
@@ -173,7 +174,7 @@ pub fn is_input(input: Stream, name: &[u8]) -> bool {
     if fd < 0 {
         return false;
     }
-    let same = is_same(input.fd, fd);
+    let same = is_same(descriptor(input), fd);
     libc::close(fd);
     same
 }

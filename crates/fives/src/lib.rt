@@ -39,11 +39,11 @@ fn first_of(first: u64, call: u64) -> u64
 pub fn count_pair(tally: Tally, alike: bool) -> Tally
     ensures { λ r. ⌜ r ≡ counted tally alike ⌝ }
 {
-    let calls = feed::more(tally.calls);
+    let calls = capped::more(tally.calls);
     if alike {
         return Tally {
             calls,
-            same: feed::more(tally.same),
+            same: capped::more(tally.same),
             differ: tally.differ,
             first: tally.first,
         };
@@ -51,7 +51,7 @@ pub fn count_pair(tally: Tally, alike: bool) -> Tally
     Tally {
         calls,
         same: tally.same,
-        differ: feed::more(tally.differ),
+        differ: capped::more(tally.differ),
         first: first_of(tally.first, calls),
     }
 }

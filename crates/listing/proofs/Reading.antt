@@ -12,8 +12,8 @@ use Rattle.feed.specs.Feed.{Feed, blank, feedIn, Hands, given, zeros, heldRoom}
 use Rattle.feed.specs.Parts.{fed}
 use Rattle.feed.proofs.Parts.{fed-more, Passed, none-passed, all-passed}
 use Rattle.feed.proofs.Reading.{turn-passed, took}
-use Rattle.files.specs.declared.Stream.{Stream}
-use Rattle.files.specs.Stream.{through-none, through-more}
+use Rattle.streams.specs.declared.Stream.{Stream}
+use Rattle.streams.specs.Stream.{through-none, through-more}
 use Rattle.listing.specs.declared.State.{State}
 use Rattle.listing.specs.declared.Reader.{Reader}
 use Rattle.listing.specs.Tale.{Tale, untold, tells, taleOf, closing, written}

@@ -19,8 +19,8 @@ use Rattle.page.proofs.Putting.{page-read}
 use Rattle.entries.specs.Entry.{titleOf, entryLine}
 use Rattle.entries.specs.Ending.{noLength, cutOff, wholeTrace, secondEnding, endingLine}
 use Rattle.shown.specs.Page.{shownPage}
-use Rattle.files.specs.declared.Stream.{Stream}
-use Rattle.files.specs.Stream.{Wrote, wrote-none, wrote-more}
+use Rattle.streams.specs.declared.Stream.{Stream}
+use Rattle.streams.specs.Stream.{Wrote, wrote-none, wrote-more}
 use Rattle.listing.specs.declared.State.{State}
 use Rattle.listing.specs.Tale.{Tale, pageRoom, onPage, asked, toldOf, differing, tells, closing}
 use Rattle.listing.specs.Contract.{taleIn, Sends, Adds}

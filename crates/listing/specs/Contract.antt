@@ -8,8 +8,8 @@ use Rattle.door.specs.Contract.{replyOf}
 use Rattle.pairs.specs.Cut.{longestRecord}
 use Rattle.feed.specs.Feed.{Feed, stepped, feedIn}
 use Rattle.feed.specs.Parts.{fed}
-use Rattle.files.specs.declared.Stream.{Stream}
-use Rattle.files.specs.Stream.{Through, Wrote}
+use Rattle.streams.specs.declared.Stream.{Stream}
+use Rattle.streams.specs.Stream.{Through, Wrote}
 use Rattle.listing.specs.declared.State.{State}
 use Rattle.listing.specs.declared.Reader.{Reader}
 use Rattle.listing.specs.declared.Listed.{Listed}

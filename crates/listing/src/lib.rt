@@ -2,15 +2,15 @@
 // in words. What a file holds is not known here; it is promised that what was written is that of the bytes that were read.
 use entries::put_ending;
 use entries::put_entry;
-use files::Stream;
 use page::front;
 use shown::put_page;
+use streams::Stream;
 ghost use mathlib.Core.Path.{_≡_};
-ghost use Prim.Native.Nat.{_+_, _≤_};
+ghost use Prim.Native.Nat.{_≤_};
 ghost use lib.ListN.{length, take};
 ghost use Rattle.door.specs.Contract.{replyOf};
 ghost use Rattle.pairs.specs.Cut.{pairIn};
-ghost use Rattle.feed.specs.Feed.{capped, given};
+ghost use Rattle.feed.specs.Feed.{given};
 ghost use Rattle.listing.specs.Tale.{Tale, toldOf, differing as differingOf, tells, closing};
 ghost use Rattle.listing.specs.Contract.{Sends, Adds, Takes, Reads, Lists};
 
@@ -48,16 +48,6 @@ pub struct Listed {
 // The room of a page.
 const PAGE: usize = 16384;
 
-// So many more, up to the greatest number.
-fn sum(a: u64, b: u64) -> u64
-    ensures { λ r. ⌜ r ≡ capped (a + b) ⌝ }
-{
-    if b < u64::MAX - a {
-        return a + b;
-    }
-    u64::MAX
-}
-
 // One more where a pair that is asked for differs.
 fn differing(wanted: u64, alike: bool, number: u64, n: u64) -> u64
     ensures { λ r. ⌜ r ≡ differingOf wanted alike number n ⌝ }
@@ -66,10 +56,10 @@ fn differing(wanted: u64, alike: bool, number: u64, n: u64) -> u64
         return n;
     }
     if wanted == 0 {
-        return feed::more(n);
+        return capped::more(n);
     }
     if wanted == number {
-        return feed::more(n);
+        return capped::more(n);
     }
     n
 }
@@ -93,14 +83,14 @@ fn tell(
         }
         let mut line = [0u8; PAGE];
         let n = put_entry(number, offset, request, reply, today, &mut line);
-        return files::write(out, front(&line, n));
+        return streams::write(out, front(&line, n));
     }
     if wanted != number {
         return out;
     }
     let mut page = [0u8; PAGE];
     let n = put_page(number, offset, request, reply, today, &mut page);
-    files::write(out, front(&page, n))
+    streams::write(out, front(&page, n))
 }
 
 // The pair that starts here, and the door asked afresh.
@@ -115,7 +105,7 @@ fn ask(wanted: u64, state: State, pair: &[u8]) -> State
     let calls = state.calls;
     let offset = state.offset;
     let to = state.out;
-    let number = feed::more(calls);
+    let number = capped::more(calls);
     let out = tell(
         wanted,
         alike,
@@ -128,7 +118,10 @@ fn ask(wanted: u64, state: State, pair: &[u8]) -> State
     );
     State {
         calls: number,
-        offset: sum(sum(offset, request.len() as u64), reply.len() as u64),
+        offset: capped::sum(
+            capped::sum(offset, request.len() as u64),
+            reply.len() as u64,
+        ),
         differ: differing(wanted, alike, number, state.differ),
         out,
     }
@@ -166,7 +159,7 @@ fn take(wanted: u64, reader: Reader, part: &[u8]) -> Reader
 fn read_part(wanted: u64, input: Stream, reader: Reader, part: &mut [u8]) -> Night
     ensures { λ r. ⌜ Reads wanted input reader (r .input) (r .reader) ⌝ }
 {
-    let got = files::read(input, part);
+    let got = streams::read(input, part);
     let n = got.count;
     let behind = got.stream;
     Night {
@@ -229,7 +222,7 @@ fn close(wanted: u64, failed: bool, reader: Reader) -> Stream
     let rest = reader.rest;
     let mut page = [0u8; PAGE];
     let n = put_ending(state.offset, rest, front(&held, rest as usize), &mut page);
-    files::write(out, front(&page, n))
+    streams::write(out, front(&page, n))
 }
 
 // Tells pair `wanted` of a night, or all that differ where that is 0.

@@ -1,14 +1,14 @@
 // The refusals' names, written into a lent buffer; and an answer line with its refusal by name.
 ghost use mathlib.Core.Path.{_≡_};
-ghost use Prim.Native.Nat.{_+_, _-_, _≤_};
+ghost use Prim.Native.Nat.{_+_, _-_, _≤_, _<_};
 ghost use lib.ListN.{length, getD, drop};
 ghost use Rattle.spell.specs.Decimal.{Written};
 ghost use Rattle.names.specs.Names.{nameOf, firstWidth, firstNumber, byName};
 use spell::write_bytes;
 
-// The name of a refusal; nothing where a number has none.
-pub fn write_name(n: u64, out: &mut [u8], at: usize) -> usize
-    requires { ⌜ at + 9 ≤ length (now out) ⌝ }
+// 1 to 4; 0 has no name.
+fn write_first(n: u64, out: &mut [u8], at: usize) -> usize
+    requires { ⌜ (n < 5) × (at + 9 ≤ length (now out)) ⌝ }
     ensures { λ r. ⌜ Written 9 (now (out .entry)) at (nameOf n) (now (out .exit)) r ⌝ }
 {
     if n < 1 {
@@ -23,9 +23,14 @@ pub fn write_name(n: u64, out: &mut [u8], at: usize) -> usize
     if n < 4 {
         return write_bytes(b"SURFACE", out, at);
     }
-    if n < 5 {
-        return write_bytes(b"PATH", out, at);
-    }
+    write_bytes(b"PATH", out, at)
+}
+
+// 5 to 8.
+fn write_second(n: u64, out: &mut [u8], at: usize) -> usize
+    requires { ⌜ (4 < n) × (n < 9) × (at + 9 ≤ length (now out)) ⌝ }
+    ensures { λ r. ⌜ Written 9 (now (out .entry)) at (nameOf n) (now (out .exit)) r ⌝ }
+{
     if n < 6 {
         return write_bytes(b"ROOM", out, at);
     }
@@ -35,9 +40,14 @@ pub fn write_name(n: u64, out: &mut [u8], at: usize) -> usize
     if n < 8 {
         return write_bytes(b"PARAMETER", out, at);
     }
-    if n < 9 {
-        return write_bytes(b"BALANCE", out, at);
-    }
+    write_bytes(b"BALANCE", out, at)
+}
+
+// 9 to 11; what is more has no name.
+fn write_third(n: u64, out: &mut [u8], at: usize) -> usize
+    requires { ⌜ (8 < n) × (at + 9 ≤ length (now out)) ⌝ }
+    ensures { λ r. ⌜ Written 9 (now (out .entry)) at (nameOf n) (now (out .exit)) r ⌝ }
+{
     if n < 10 {
         return write_bytes(b"FRAME", out, at);
     }
@@ -48,6 +58,20 @@ pub fn write_name(n: u64, out: &mut [u8], at: usize) -> usize
         return write_bytes(b"MOMENT", out, at);
     }
     at
+}
+
+// The name of a refusal; nothing where a number has none.
+pub fn write_name(n: u64, out: &mut [u8], at: usize) -> usize
+    requires { ⌜ at + 9 ≤ length (now out) ⌝ }
+    ensures { λ r. ⌜ Written 9 (now (out .entry)) at (nameOf n) (now (out .exit)) r ⌝ }
+{
+    if n < 5 {
+        return write_first(n, out, at);
+    }
+    if n < 9 {
+        return write_second(n, out, at);
+    }
+    write_third(n, out, at)
 }
 
 // The number that a digit is.

@@ -12,8 +12,8 @@ use Rattle.tally.specs.Read.{replayed}
 use Rattle.tally.specs.Read.{afterPart, blankReader, fiveIn}
 use Rattle.fives.specs.Lines.{fiveLines, Told}
 use Rattle.tally.proofs.Promises.{five-of-parts}
-use Rattle.files.specs.declared.Stream.{Stream}
-use Rattle.files.specs.Stream.{Wrote}
+use Rattle.streams.specs.declared.Stream.{Stream}
+use Rattle.streams.specs.Stream.{Wrote}
 use Rattle.reading.specs.Parts.{Took}
 use Rattle.night.specs.Reading.{Replays}
 

@@ -6,8 +6,8 @@ use mathlib.Core.List.{List}
 use Prim.Native.Nat.{ℕ}
 use Rattle.tally.specs.Read.{replayed}
 use Rattle.fives.specs.Lines.{fiveLines}
-use Rattle.files.specs.declared.Stream.{Stream}
-use Rattle.files.specs.Stream.{Through, Wrote}
+use Rattle.streams.specs.declared.Stream.{Stream}
+use Rattle.streams.specs.Stream.{Through, Wrote}
 use Rattle.night.specs.declared.Replayed.{Replayed}
 
 -- the numbers of the bytes that were read, and their lines; where a read failed nothing was written

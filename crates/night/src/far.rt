@@ -1,7 +1,7 @@
 // How far the reading of a night is, in words: bytes, their share where the size is known, and calls.
-use files::progress::Progress;
 use page::put;
 use page::put_natural;
+use progress::Progress;
 
 // `, N %`; nothing where the size is not known.
 fn put_share(count: u64, size: u64, page: &mut [u8], at: usize) -> usize {

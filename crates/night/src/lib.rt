@@ -2,9 +2,9 @@
 // known here; it is promised that what was written is that of the bytes that were read.
 mod far;
 
-use files::Stream;
-use files::progress::Progress;
 use fives::Five;
+use progress::Progress;
+use streams::Stream;
 use tally::Reader;
 ghost use mathlib.Core.Path.{_≡_};
 ghost use Rattle.tally.specs.Read.{afterPart};
@@ -29,7 +29,7 @@ pub struct Replayed {
 fn read_part(input: Stream, reader: Reader, part: &mut [u8]) -> Night
     ensures { λ r. ⌜ Took afterPart input reader (r .input) (r .reader) ⌝ }
 {
-    let got = files::read(input, part);
+    let got = streams::read(input, part);
     let n = got.count;
     let behind = got.stream;
     Night {
@@ -41,7 +41,7 @@ fn read_part(input: Stream, reader: Reader, part: &mut [u8]) -> Night
 
 // Tells how far the reading is, where it is time.
 fn tell(progress: Progress, input: Stream, reader: Reader, ended: bool) -> Progress {
-    if !files::progress::is_due(progress, ended) {
+    if !progress::is_due(progress, ended) {
         return progress;
     }
     let mut page = [0u8; 160];
@@ -53,9 +53,9 @@ fn tell(progress: Progress, input: Stream, reader: Reader, ended: bool) -> Progr
         &mut page,
     );
     if n <= 160 {
-        files::write(files::standard_error(), &page[..n]);
+        streams::write(streams::standard_error(), &page[..n]);
     }
-    files::progress::told(progress)
+    progress::told(progress)
 }
 
 // Nothing says that a trace ends, and a proved loop has to: it counts its turns down from a number that no run uses up.
@@ -102,7 +102,7 @@ pub fn replay_all(input: Stream, progress: Progress, out: Stream) -> Replayed
     let n = fives::write_five(five, &mut lines);
     Replayed {
         input: behind,
-        out: files::write(out, &lines[..n]),
+        out: streams::write(out, &lines[..n]),
         five,
     }
 }

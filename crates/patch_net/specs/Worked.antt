@@ -1,5 +1,6 @@
 -- Worked patches, reckoned apart from this program by expanding the product of the Bernstein forms, with worked readings and refusals.
--- All but the corner case (3, 3) are without symmetry. Each array is lent with one place more than is needed. Assumes nothing.
+-- They are without symmetry; the corner case (3, 3) is in crate worked. Each array is lent with one place more than is needed. Assumes
+-- nothing.
 use mathlib.Core.Path.{_≡_, refl}
 use mathlib.Core.List.{List, [], _∷_, _++_, map}
 use Prim.Native.Nat.{ℕ, _+_}
@@ -66,24 +67,6 @@ patches =
     ∷ [])
     ∷ []
 
--- the corner case (3, 3): all values 4096, ten domain points; every exact point is 4096, so a numerator is its multinomial times 2^42
-unfoldable pub corner : Patch
-corner = patch 3 3 (replicate 10 (pos 4096))
-    (naturals (0 ∷ 57 ∷ 967 ∷ 41 ∷ 295 ∷ 688 ∷ 82 ∷ 533 ∷ 409 ∷ 123 ∷ 771 ∷ 130 ∷ 300 ∷ 38 ∷ 686 ∷ 341 ∷ 276 ∷ 407 ∷ 382 ∷ 514 ∷ 128 ∷ 600 ∷ 19 ∷ 405
-    ∷ 641 ∷ 257 ∷ 126 ∷ 900 ∷ 0 ∷ 124 ∷ []))
-
-unfoldable pub corners : List Worked
-corners = worked corner
-    (naturals (4398046511104 ∷ 39582418599936 ∷ 158329674399744 ∷ 369435906932736 ∷ 554153860399104 ∷ 554153860399104 ∷ 369435906932736
-    ∷ 158329674399744 ∷ 39582418599936 ∷ 4398046511104 ∷ 39582418599936 ∷ 316659348799488 ∷ 1108307720798208 ∷ 2216615441596416 ∷ 2770769301995520
-    ∷ 2216615441596416 ∷ 1108307720798208 ∷ 316659348799488 ∷ 39582418599936 ∷ 158329674399744 ∷ 1108307720798208 ∷ 3324923162394624
-    ∷ 5541538603991040 ∷ 5541538603991040 ∷ 3324923162394624 ∷ 1108307720798208 ∷ 158329674399744 ∷ 369435906932736 ∷ 2216615441596416
-    ∷ 5541538603991040 ∷ 7388718138654720 ∷ 5541538603991040 ∷ 2216615441596416 ∷ 369435906932736 ∷ 554153860399104 ∷ 2770769301995520
-    ∷ 5541538603991040 ∷ 5541538603991040 ∷ 2770769301995520 ∷ 554153860399104 ∷ 554153860399104 ∷ 2216615441596416 ∷ 3324923162394624
-    ∷ 2216615441596416 ∷ 554153860399104 ∷ 369435906932736 ∷ 1108307720798208 ∷ 1108307720798208 ∷ 369435906932736 ∷ 158329674399744
-    ∷ 316659348799488 ∷ 158329674399744 ∷ 39582418599936 ∷ 39582418599936 ∷ 4398046511104 ∷ []))
-    (replicate 55 (pos 4096)) ∷ []
-
 -- what a lent place holds that must stay
 unfoldable pub mark : ℤ
 mark = below 7
@@ -98,8 +81,8 @@ given w =
 unfoldable pub stated : Worked → Answer × List ℤ × List ℤ
 stated w = (record { number = 0; place = 0; count = length (w .points) }, w .numerators ++ (mark ∷ []), w .points ++ (mark ∷ []))
 
-pub as-stated : map given (patches ++ corners) ≡ map stated (patches ++ corners)
-unfolding naturals below patch worked patches corner corners mark given stated longest places row rows indices netOf pathNumber rowStart
+pub as-stated : map given patches ≡ map stated patches
+unfolding naturals below patch worked patches mark given stated longest places row rows indices netOf pathNumber rowStart
     notDegree notSurface notPath notRoom notValue notParameter balancePlace notBalance refusals accepted answer first refused decided least
     valuePlace parameterPlace uneven isNumber beyondTravel beyondPath multinomial overIndices overChoices total weight arguments numerator
     denominator point afterwards exactAfter pointsAfter step blossom nearest onSideOf halfUp sumOver choose

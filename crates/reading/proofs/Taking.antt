@@ -7,8 +7,8 @@ use lib.ListN.{length, take}
 use Rattle.spell.specs.Decimal.{Told}
 use Rattle.spell.proofs.Writing.{told-front}
 use Rattle.feed.specs.Parts.{uncut, afterAll}
-use Rattle.files.specs.declared.Stream.{Stream}
-use Rattle.files.specs.Stream.{Through, through-none, through-more, Wrote}
+use Rattle.streams.specs.declared.Stream.{Stream}
+use Rattle.streams.specs.Stream.{Through, through-none, through-more, Wrote}
 use Rattle.reading.specs.Parts.{Took, Tells}
 
 uncut-more : (a b : List (List ℕ)) → uncut (a ++ b) ≡ uncut a ++ uncut b

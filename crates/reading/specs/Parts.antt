@@ -5,8 +5,8 @@ use mathlib.Core.Bool.{true, false}
 use mathlib.Core.List.{List}
 use Prim.Native.Nat.{ℕ}
 use Rattle.feed.specs.Parts.{uncut, afterAll}
-use Rattle.files.specs.declared.Stream.{Stream}
-use Rattle.files.specs.Stream.{Through, Wrote}
+use Rattle.streams.specs.declared.Stream.{Stream}
+use Rattle.streams.specs.Stream.{Through, Wrote}
 
 -- just these parts were read from an input, and the state took them
 pub record Took {S : Type 0} (step : S → List ℕ → S) (from : Stream) (s : S) (from′ : Stream) (s′ : S) : Type 0 where

@@ -11,8 +11,8 @@ use Rattle.spell.specs.Decimal.{Written, Told}
 use Rattle.spell.proofs.Writing.{front-read, told, told-front}
 use Rattle.feed.specs.Feed.{capped, heldRoom}
 use Rattle.feed.specs.Parts.{uncut, afterAll}
-use Rattle.files.specs.declared.Stream.{Stream}
-use Rattle.files.specs.Stream.{Through, through-none, through-more, Wrote, wrote-none, wrote-more}
+use Rattle.streams.specs.declared.Stream.{Stream}
+use Rattle.streams.specs.Stream.{Through, through-none, through-more, Wrote, wrote-none, wrote-more}
 use Rattle.converter.specs.declared.Converter.{Converter}
 use Rattle.converter.specs.declared.Taken.{Taken}
 use Rattle.aging.specs.Convert.{converted, changed, refuses, endsLong}

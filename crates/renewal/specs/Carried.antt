@@ -7,8 +7,8 @@ use mathlib.Core.List.{List}
 use Prim.Native.Nat.{ℕ}
 use Rattle.feed.specs.Feed.{capped}
 use Rattle.feed.specs.Parts.{uncut, afterAll}
-use Rattle.files.specs.declared.Stream.{Stream}
-use Rattle.files.specs.Stream.{Through, Wrote}
+use Rattle.streams.specs.declared.Stream.{Stream}
+use Rattle.streams.specs.Stream.{Through, Wrote}
 use Rattle.converter.specs.declared.Converter.{Converter}
 use Rattle.aging.specs.Convert.{converted, changed, refuses}
 use Rattle.converter.specs.Put.{afterPart, putParts}

@@ -1,11 +1,11 @@
 // An old night as it comes from an input: looked through, and converted into an output. What a file holds is not known here; it is
 // promised that what was written, and told, is that of the bytes that were read.
 use converter::Converter;
-use files::Stream;
-use files::progress::Progress;
+use progress::Progress;
+use streams::Stream;
 ghost use Prim.Native.Nat.{_≤_};
 ghost use lib.ListN.{length};
-ghost use Rattle.files.specs.Stream.{Wrote};
+ghost use Rattle.streams.specs.Stream.{Wrote};
 ghost use Rattle.converter.specs.Put.{partRoom, outRoom};
 ghost use Rattle.spell.specs.Decimal.{Written};
 ghost use Rattle.renewal.specs.Verdict.{verdict, verdictRoom};
@@ -48,7 +48,7 @@ fn carry_part(
     requires { ⌜ (length (now part) ≤ partRoom) × (outRoom ≤ length (now buffer)) ⌝ }
     ensures { λ r. ⌜ Carries wanted input out converter (r .input) (r .out) (r .converter) ⌝ }
 {
-    let got = files::read(input, part);
+    let got = streams::read(input, part);
     let n = got.count;
     let behind = got.stream;
     let taken = converter::take(converter, &part[..n], buffer);
@@ -57,7 +57,7 @@ fn carry_part(
     if wanted {
         return Night {
             input: behind,
-            out: files::write(out, &buffer[..count]),
+            out: streams::write(out, &buffer[..count]),
             converter: next,
             count: n,
         };
@@ -72,11 +72,11 @@ fn carry_part(
 
 // Tells how far the reading is, when it is time.
 fn tell(progress: Progress, read: u64) -> Progress {
-    if files::progress::is_due(progress, false) {
+    if progress::is_due(progress, false) {
         let mut line = [0u8; 64];
         let n = spell::write_named(b"convert: bytes read so far", read, &mut line, 0);
-        files::write(files::standard_error(), &line[..n]);
-        return files::progress::told(progress);
+        streams::write(streams::standard_error(), &line[..n]);
+        return progress::told(progress);
     }
     progress
 }
@@ -167,7 +167,7 @@ pub fn renew(input: Stream, out: Stream, progress: Progress) -> Renewed
     let n = converter::last(converter, &mut buffer);
     Renewed {
         input: behind,
-        out: files::write(written, &buffer[..n]),
+        out: streams::write(written, &buffer[..n]),
         refused: converter::refused(converter),
         changed: converter.changed,
     }
@@ -190,5 +190,5 @@ pub fn print(refused: bool, changed: u64, out: Stream) -> Stream
 {
     let mut line = [0u8; 31];
     let n = write_verdict(refused, changed, &mut line);
-    files::write(out, &line[..n])
+    streams::write(out, &line[..n])
 }

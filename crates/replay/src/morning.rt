@@ -1,8 +1,8 @@
 // The night that is asked for, read and told.
-use files::Stream;
 use files::told::say;
 use files::told::trouble;
 use files::told::written;
+use streams::Stream;
 
 fn no_numbers(name: &[u8]) -> u64 {
     trouble(b"replay", name);
@@ -23,8 +23,8 @@ fn found(differ: u64, rest: u64) -> u64 {
 
 // The five lines.
 fn count(from: Stream, name: &[u8], progress: bool) -> u64 {
-    let far = files::progress::begin(progress, from);
-    let replayed = night::replay_all(from, far, files::standard_output());
+    let far = progress::begin(progress, from);
+    let replayed = night::replay_all(from, far, streams::standard_output());
     let read = replayed.input;
     let five = replayed.five;
     if read.failed {
@@ -35,7 +35,7 @@ fn count(from: Stream, name: &[u8], progress: bool) -> u64 {
 
 // The pairs that differ, or one pair in words.
 fn tell(from: Stream, name: &[u8], wanted: u64) -> u64 {
-    let told = listing::list(from, wanted, files::standard_output());
+    let told = listing::list(from, wanted, streams::standard_output());
     let read = told.input;
     let out = told.out;
     if out.failed {

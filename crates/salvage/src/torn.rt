@@ -1,8 +1,8 @@
 // Salvaging one file to another.
-use files::Stream;
 use files::output;
 use files::told;
 use salvaging::Salvaged;
+use streams::Stream;
 
 // What went wrong is told, and what stood under OUT's name stays.
 fn trouble(out: Stream, beside: &[u8], what: &[u8]) -> u64 {
@@ -50,8 +50,8 @@ fn salvage(input: Stream, from: &[u8], to: &[u8], progress: bool) -> u64 {
         told::trouble(b"salvage", to);
         return 2;
     }
-    let due = files::progress::begin(progress, input);
-    let salvaged = salvaging::salvage_all(input, due, out, files::standard_output());
+    let due = progress::begin(progress, input);
+    let salvaged = salvaging::salvage_all(input, due, out, streams::standard_output());
     end(salvaged, from, to, &name[..n])
 }
 

@@ -12,8 +12,8 @@ use Rattle.door.specs.Contract.{replyOf}
 use Rattle.spell.proofs.Writing.{front-read}
 use Rattle.torn.specs.Window.{skipsAhead, keepsAhead, closedLine, lineAfter, fromAfter, lostAfter, Stands}
 use Rattle.torn.proofs.Going.{stands-none, stands-read, stands-last, stands-next, stands-over, skips-within, keeps-fits, rest-none, rest-small}
-use Rattle.files.specs.declared.Stream.{Stream}
-use Rattle.files.specs.Stream.{Through, through-none, through-more, Wrote, wrote-none, wrote-more}
+use Rattle.streams.specs.declared.Stream.{Stream}
+use Rattle.streams.specs.Stream.{Through, through-none, through-more, Wrote, wrote-none, wrote-more}
 use Rattle.saver.specs.declared.Place.{Place}
 use Rattle.saver.specs.declared.Stretch.{Stretch}
 use Rattle.saver.specs.Ahead.{lineRoom, stretchOf, Leaves, closing, Closes}

@@ -10,8 +10,8 @@ use Rattle.door.specs.Contract.{replyOf}
 use Rattle.torn.specs.Salvage.{salvage, saved, runs}
 use Rattle.torn.specs.Lines.{cappedLines}
 use Rattle.torn.specs.Window.{Stands}
-use Rattle.files.specs.declared.Stream.{Stream}
-use Rattle.files.specs.Stream.{Through, Wrote}
+use Rattle.streams.specs.declared.Stream.{Stream}
+use Rattle.streams.specs.Stream.{Through, Wrote}
 use Rattle.saver.specs.declared.Place.{Place}
 use Rattle.salvaging.specs.declared.State.{State}
 use Rattle.salvaging.specs.declared.Turn.{Turn}

@@ -9,9 +9,9 @@ ghost use lib.ListN.{length, take, drop};
 ghost use Rattle.torn.specs.Window.{closedLine};
 ghost use Rattle.saver.specs.Ahead.{lineRoom};
 ghost use Rattle.salvaging.specs.Salvaging.{Puts, Settles, Rests, Fills, Salvages};
-use files::Stream;
-use files::progress::Progress;
+use progress::Progress;
 use saver::Place;
+use streams::Stream;
 
 // Where the salvage stands, and its two outputs.
 struct State {
@@ -34,8 +34,8 @@ fn put(place: Place, line: &[u8], kept: &[u8], state: State) -> State
     let also = state.out;
     State {
         place,
-        out: files::write(also, kept),
-        lines: files::write(to, line),
+        out: streams::write(also, kept),
+        lines: streams::write(to, line),
     }
 }
 
@@ -105,7 +105,7 @@ fn read_more(input: Stream, buffer: &mut [u8], count: usize, line: &mut [u8], st
     requires { ⌜ (count ≤ length (now buffer)) × (lineRoom ≤ length (now line)) ⌝ }
     ensures { λ r. ⌜ Fills input (take count (now (buffer .entry))) state r (now (buffer .exit)) ⌝ }
 {
-    let got = files::read(input, &mut buffer[count..]);
+    let got = streams::read(input, &mut buffer[count..]);
     let end = count + got.count;
     let settled = settle(&buffer[..end], false, line, state);
     let at = settled.taken;
@@ -136,13 +136,13 @@ fn is_over(turn: Turn) -> bool {
 
 // Tells how far the reading is, where it is time to.
 fn tell(progress: Progress, input: Stream) -> Progress {
-    if !files::progress::is_due(progress, false) {
+    if !progress::is_due(progress, false) {
         return progress;
     }
     let mut out = [0u8; 64];
     let n = spell::write_named(b"salvage: bytes read", input.count, &mut out, 0);
-    files::write(files::standard_error(), &out[..n]);
-    files::progress::told(progress)
+    streams::write(streams::standard_error(), &out[..n]);
+    progress::told(progress)
 }
 
 // Reads until nothing more comes or a write fails. Nothing says that an input ends, and a proved loop has to: it counts its turns down

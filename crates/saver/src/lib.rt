@@ -3,12 +3,11 @@
 // memory does not grow with it. No function that is public asks anything of its caller.
 ghost use mathlib.Core.Path.{_≡_};
 ghost use mathlib.Core.Bool.{_||_};
-ghost use Prim.Native.Nat.{_+_, _≤_};
+ghost use Prim.Native.Nat.{_≤_};
 ghost use lib.Dec.{eqb};
 ghost use lib.ListN.{length};
 ghost use Rattle.wire.specs.Start.{isLength, lengthField, kindField};
 ghost use Rattle.pairs.specs.Cut.{longestRecord};
-ghost use Rattle.feed.specs.Feed.{capped};
 ghost use Rattle.spell.specs.Decimal.{Written};
 ghost use Rattle.door.specs.Contract.{replyOf};
 ghost use Rattle.torn.specs.Lines.{skipLine};
@@ -137,16 +136,6 @@ fn keeps_ahead(window: &[u8]) -> usize
     i
 }
 
-// So many more, up to the greatest number.
-fn further(n: u64, k: u64) -> u64
-    ensures { λ r. ⌜ r ≡ capped (n + k) ⌝ }
-{
-    if k < u64::MAX - n {
-        return n + k;
-    }
-    u64::MAX
-}
-
 // `skip offset length` and a newline.
 fn write_skip(place: Place, line: &mut [u8]) -> usize
     requires { ⌜ lineRoom ≤ length (now line) ⌝ }
@@ -189,7 +178,7 @@ pub fn ahead(window: &[u8], last: bool, place: Place, line: &mut [u8]) -> Stretc
     let kept = keeps_ahead(&window[skipped..]);
     let run = Place {
         from: place.from,
-        lost: further(place.lost, skipped as u64),
+        lost: capped::sum(place.lost, skipped as u64),
     };
     if kept == 0 {
         return Stretch {
@@ -205,7 +194,7 @@ pub fn ahead(window: &[u8], last: bool, place: Place, line: &mut [u8]) -> Stretc
         kept,
         line: size,
         place: Place {
-            from: further(further(run.from, run.lost), kept as u64),
+            from: capped::sum(capped::sum(run.from, run.lost), kept as u64),
             lost: 0,
         },
     }

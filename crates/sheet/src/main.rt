@@ -1,7 +1,7 @@
 // The daily sheet: reads the trace that its argument names, or standard input, and writes the fourteen lines. What goes wrong is said on
 // standard error, and then no line is written.
-use files::Stream;
 use files::program;
+use streams::Stream;
 
 fn no_sheet(name: &[u8]) -> u64 {
     files::told::trouble(b"sheet", name);
@@ -11,7 +11,7 @@ fn no_sheet(name: &[u8]) -> u64 {
 
 // Writes the sheet of what comes from an input.
 fn sheet_from(from: Stream, name: &[u8], progress: bool) -> u64 {
-    let told = day::sheet_all(from, progress, files::standard_output());
+    let told = day::sheet_all(from, progress, streams::standard_output());
     let read = told.input;
     if read.failed {
         return no_sheet(name);

@@ -125,7 +125,7 @@ fn count_up(counts: &mut [u64; 11], n: usize)
     ensures { λ _. ⌜ now (counts .exit) ≡ countedUp (now (counts .entry)) n ⌝ }
 {
     if n < 11 {
-        counts[n] = feed::more(counts[n]);
+        counts[n] = capped::more(counts[n]);
     }
 }
 
@@ -137,7 +137,7 @@ fn with_reply(sheet: Sheet, reply: &[u8]) -> Sheet
     let span = sheet.span;
     if is_odd(reply) {
         return Sheet {
-            odd: feed::more(sheet.odd),
+            odd: capped::more(sheet.odd),
             refusals,
             span,
         };

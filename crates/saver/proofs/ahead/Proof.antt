@@ -36,21 +36,21 @@ part-keeps-ahead-end c = search needs
 keeps-ahead-requires : tie.Need-keeps-ahead-requires
 keeps-ahead-requires c κs = search needs
 
-further-requires : tie.Need-further-requires
-further-requires c κs = search needs
+sum-requires : tie.Need-sum-requires
+sum-requires c κs = search needs
 
 returns-2 : tie.Need-returns-2
 returns-2 c = none-kept _ _ _ _ (omega arith) _ _ (c .before .before .before .before .skips-ahead .ensures) (c .before
-    .before .keeps-ahead .ensures) _ (c .before .further .ensures) (c .if2 .taken)
+    .before .keeps-ahead .ensures) _ (c .before .sum .ensures) (c .if2 .taken)
 
 close-requires : tie.Need-close-requires
 close-requires c κs = search needs
 
-further-requires-2 : tie.Need-further-requires-2
-further-requires-2 c κs = search needs
+sum-requires-2 : tie.Need-sum-requires-2
+sum-requires-2 c κs = search needs
 
-further-requires-3 : tie.Need-further-requires-3
-further-requires-3 c κs = search needs
+sum-requires-3 : tie.Need-sum-requires-3
+sum-requires-3 c κs = search needs
 
 same-length : tie.Need-same-length
 same-length c = search needs
@@ -58,9 +58,9 @@ same-length c = search needs
 returns-3 : tie.Need-returns-3
 returns-3 c = some-kept _ _ _ _ (omega arith) _ _ (c .before .before .before .before .before .before .before .before .before
     .before .skips-ahead .ensures) (c .before .before .before .before .before .before .before .before .keeps-ahead .ensures)
-    _ (c .before .before .before .before .before .before .before .further .ensures) (c .before .before .before .before
+    _ (c .before .before .before .before .before .before .before .sum .ensures) (c .before .before .before .before
     .before .before .if2 .left)
-    (c .before .before .before .before .close .ensures) _ (rw (c .before .further2 .ensures) at (c .further3 .ensures))
+    (c .before .before .before .before .close .ensures) _ (rw (c .before .sum2 .ensures) at (c .sum3 .ensures))
 
 pub ahead-spec : {M : Type 1} → statement M
 ahead-spec =
@@ -72,10 +72,10 @@ ahead-spec =
     part-keeps-ahead-start
     part-keeps-ahead-end
     keeps-ahead-requires
-    further-requires
+    sum-requires
     returns-2
     close-requires
-    further-requires-2
-    further-requires-3
+    sum-requires-2
+    sum-requires-3
     same-length
     returns-3)
