@@ -29,7 +29,7 @@ use Rattle.patch_line.specs.Line.{patchWord}
 use Rattle.patch_line.specs.Line as patches
 use Rattle.reply.specs.Reply.{spokenAs, spoken}
 use Rattle.answers.specs.Answer.{spokenOf, answerOf, complaintOf}
-use Rattle.answers.specs.Contract.{Says, enough, nextRow, Takes}
+use Rattle.answers.specs.Contract.{Says, enough, behindLine, Takes}
 use Rattle.answers.specs.declared.lines.Lines.{Lines}
 use Rattle.answers.specs.declared.lines.Taken.{Taken}
 
@@ -129,22 +129,18 @@ module _ (part : List ℕ) (at : ℕ) (l : Lines) (line out err line′ : List �
   kept-read : take (p .kept) line′ ≡ cutAt (length line) (take (l .kept) line) (drop at part) .kept
   kept-read = rw (is .keeps .holds, is .keeps .ends) (front-read line _ (omega (arith, is .fits, is .keeps .ends)))
 
-  pub takes-line : p .ended ≡ true → (out′ err′ : List ℕ) (m n row : ℕ) → row ≡ nextRow (l .row)
+  pub takes-line : p .ended ≡ true → (out′ err′ : List ℕ) (m n : ℕ) (r : Taken) → r ≡ behindLine (p .at) (l .row) m n
       → Says (enough out err (answerOf (take (p .kept) line′))) (enough out err (complaintOf (l .row)
       (take (p .kept) line′))) out err out′ err′ m n
-      → Takes part at l line out err line′ out′ err′ (record {
-        at = p .at;
-        lines = record { kept = 0; row = row };
-        answer = m;
-        complaint = n;
-      })
-  takes-line t out′ err′ m n row e s = record {
+      → Takes part at l line out err line′ out′ err′ r
+  unfolding behindLine
+  takes-line t out′ err′ m n r e s = rw e (record {
     next = is .next;
     kept = rw (← is .ended, t);
-    row-is = rw (← is .ended, t) e;
+    row-is = rw (← is .ended, t);
     holds = is .keeps .holds;
     says = rw (← is .ended, t, ← kept-read) s;
-  }
+  })
 
 -- a byte more is read where there is one
 pub takes-further : (part : List ℕ) (at : ℕ) (l : Lines) (line out err line′ out′ err′ : List ℕ) (r : Taken)

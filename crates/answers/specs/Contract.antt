@@ -2,10 +2,11 @@
 use mathlib.Core.Path.{_≡_}
 use mathlib.Core.Bool.{cond}
 use mathlib.Core.List.{List, []}
-use Prim.Native.Nat.{ℕ, _+_, _≤_, min}
+use Prim.Native.Nat.{ℕ, _+_, _≤_}
 use lib.Dec.{ltb}
 use lib.ListN.{length, take, drop}
 use lib.Seq.{sets}
+use Rattle.capped.specs.Capped.{capped}
 use Rattle.pieces.specs.Kept.{Cut, cutAt}
 use Rattle.spell.specs.Decimal.{Front}
 use Rattle.answers.specs.Answer.{answerOf, complaintOf}
@@ -36,15 +37,20 @@ Answers line row out err out′ err′ r =
 abbrev pub SaysAll : (line : List ℕ) (row : ℕ) (out err out′ err′ : List ℕ) (r : Lengths) → Type 0
 SaysAll line row out err out′ err′ r = Says (answerOf line) (complaintOf row line) out err out′ err′ (r .answer) (r .complaint)
 
--- the line after a line; the greatest number stays
-unfoldable pub nextRow : ℕ → ℕ
-nextRow row = min (row + 1) 18446744073709551615
+-- behind a line that ended: nothing is kept, and the next line has the next number
+unfoldable pub behindLine : (at row answer complaint : ℕ) → Taken
+behindLine at row answer complaint = record {
+  at = at;
+  lines = record { kept = 0; row = capped (row + 1) };
+  answer = answer;
+  complaint = complaint;
+}
 
 -- what a part, cut at its next newline, gives: the line that ended is answered, and the next one begins
 pub record Gives (c : Cut) (at row : ℕ) (line out err line′ out′ err′ : List ℕ) (r : Taken) : Type 0 where
   pub next : r .at ≡ at + c .read
   pub kept : r .lines .kept ≡ cond (c .ended) 0 (length (c .kept))
-  pub row-is : r .lines .row ≡ cond (c .ended) (nextRow row) row
+  pub row-is : r .lines .row ≡ cond (c .ended) (capped (row + 1)) row
   pub holds : line′ ≡ sets line 0 (c .kept)
   pub says : Says (cond (c .ended) (enough out err (answerOf (c .kept))) []) (cond (c .ended)
       (enough out err (complaintOf row (c .kept))) []) out err out′ err′ (r .answer) (r .complaint)

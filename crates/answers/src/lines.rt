@@ -1,6 +1,6 @@
 // The lines of an input, out of parts of it: each is answered where its newline is read.
 ghost use mathlib.Core.Path.{_≡_};
-ghost use Rattle.answers.specs.Contract.{nextRow, Takes};
+ghost use Rattle.answers.specs.Contract.{behindLine, Takes};
 use crate::answer;
 
 // Where the reading of an input stands: how many bytes of the line are kept, and the line's number.
@@ -17,13 +17,19 @@ pub struct Taken {
     pub complaint: usize,
 }
 
-fn next_row(row: u64) -> u64
-    ensures { λ r. ⌜ r ≡ nextRow row ⌝ }
+// Where reading goes on behind a line that ended, of which so many bytes were written.
+fn behind(at: usize, row: u64, answer: usize, complaint: usize) -> Taken
+    ensures { λ r. ⌜ r ≡ behindLine at row answer complaint ⌝ }
 {
-    if row < u64::MAX {
-        return row + 1;
+    Taken {
+        at,
+        lines: Lines {
+            kept: 0,
+            row: capped::more(row),
+        },
+        answer,
+        complaint,
     }
-    row
 }
 
 // The part from `at` on up to its next newline. A line that ends there is answered; else what there is of it is kept at the
@@ -53,13 +59,5 @@ pub fn take(
         };
     }
     let said = answer(&line[..kept], lines.row, out, err);
-    Taken {
-        at: piece.at,
-        lines: Lines {
-            kept: 0,
-            row: next_row(lines.row),
-        },
-        answer: said.answer,
-        complaint: said.complaint,
-    }
+    behind(piece.at, lines.row, said.answer, said.complaint)
 }

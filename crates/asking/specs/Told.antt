@@ -2,14 +2,14 @@
 -- the input's name. Assumes nothing.
 use mathlib.Core.Bool.{Bool, true, false, cond}
 use mathlib.Core.List.{List, [], _++_}
-use Prim.Native.Nat.{ℕ}
+use Prim.Native.Nat.{ℕ, _+_}
 use lib.Dec.{eqb}
 use lib.ListN.{length}
 use Rattle.pieces.specs.Kept.{keptByte}
 use Rattle.feed.specs.Parts.{fed}
+use Rattle.feed.specs.Feed.{capped}
 use Rattle.names.specs.Names.{byName}
 use Rattle.answers.specs.Answer.{answerOf, complaintOf}
-use Rattle.answers.specs.Contract.{nextRow}
 
 -- what is kept of the line that is not whole yet, its number, what was answered and complained so far, and whether a line was
 -- unreadable
@@ -45,7 +45,7 @@ unfoldable pub lineEnded : How → Told → Told
 lineEnded how t =
     record {
       kept = [];
-      row = nextRow (t .row);
+      row = capped (t .row + 1);
       answers = t .answers ++ shownBy (how .byNames) (answerOf (t .kept));
       complaints = t .complaints ++ blamed (how .name) (complaintOf (t .row) (t .kept));
       unreadable = cond (eqb (length (complaintOf (t .row) (t .kept))) 0) (t .unreadable) true;

@@ -27,6 +27,13 @@ pub struct Composition {
     pub entries: u64,
 }
 
+// A refusal: nothing was formed for it.
+fn refused(answer: Answer) -> Composition
+    ensures { λ c. ⌜ c ≡ record { answer = answer; entries = 0 } ⌝ }
+{
+    Composition { answer, entries: 0 }
+}
+
 // Composes a surface and a path, on a tilt sample of the given age. The answer is a number, a place and a count: 0, 0, L+1
 // where the request is accepted, and then the first L+1 places of the three arrays are written; else the refusal's number and
 // place and count 0, and all three are as they were.
@@ -50,7 +57,7 @@ pub fn compose(
     };
     let answer = judge::judge(head, age, surface, path, rooms);
     if answer.number != 0 {
-        return Composition { answer, entries: 0 };
+        return refused(answer);
     }
     let mut sums = [0i64; 50];
     let formed = sums::numerators(head, surface, path, &mut sums);

@@ -48,11 +48,14 @@ room c = granted (rq (begun c)) (begun c .args .age .0) (lent (begun c)) (judged
 judge-requires : tie.Need-judge-requires
 judge-requires c κs = search needs
 
+refused-requires : tie.Need-refused-requires
+refused-requires c κs = search needs
+
 returns : tie.Need-returns
 returns c =
-    let j = c .before .before in
+    let j = c .before .before .before in
     let s = j .before .before in
-    refused-result (rq s) _ (lent s) _ (j .judge .ensures) (c .if1 .taken)
+    rw (c .refused .ensures) (refused-result (rq s) _ (lent s) _ (j .judge .ensures) (c .before .if1 .taken))
 
 slice-aggregate-numerators : tie.Need-slice-aggregate-numerators
 slice-aggregate-numerators c = search needs
@@ -100,6 +103,7 @@ compose-spec =
     tie.close
     (tie.spec
     judge-requires
+    refused-requires
     returns
     slice-aggregate-numerators
     numerators-requires

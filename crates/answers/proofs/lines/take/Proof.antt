@@ -32,8 +32,8 @@ slice-aggregate-answer c =
 answer-requires : tie.Need-answer-requires
 answer-requires c κs = search needs
 
-next-row-requires : tie.Need-next-row-requires
-next-row-requires c κs = search needs
+behind-requires : tie.Need-behind-requires
+behind-requires c κs = search needs
 
 same-length-2 : tie.Need-same-length-2
 same-length-2 c = search needs
@@ -49,7 +49,7 @@ returns-2 c =
     let said = c .before .before .before .before .before in
     let test = said .before .before .before .before in
     let cut = test .before .before .before .before .cut in
-    takes-line _ _ _ _ _ _ _ (cut .result) (cut .ensures) (not-false _ (test .if1 .left)) _ _ _ _ _ (c .next-row .ensures)
+    takes-line _ _ _ _ _ _ _ (cut .result) (cut .ensures) (not-false _ (test .if1 .left)) _ _ _ _ _ (c .behind .ensures)
     (said .answer .ensures)
 
 pub take-spec : {M : Type 1} → statement M
@@ -62,7 +62,7 @@ take-spec =
     slice-reshare-prefix-answer
     slice-aggregate-answer
     answer-requires
-    next-row-requires
+    behind-requires
     same-length-2
     same-length-3
     same-length-4

@@ -1,0 +1,16 @@
+-- `answers::lines::behind` meets its contract. Assumes nothing.
+use mathlib.Core.Path.{ap}
+use borrow.Author.Needs.{needs}
+use Rattle.answers.specs.Contract.{behindLine}
+use Rattle.answers.proofs.lines.behind.Statement.{statement}
+use Rattle.answers.proofs.lines.behind.Tie as tie
+
+more-requires : tie.Need-more-requires
+more-requires c κs = search needs
+
+returns : tie.Need-returns
+unfolding behindLine
+returns c = rw (c .more .ensures)
+
+pub behind-spec : {M : Type 1} → statement M
+behind-spec = tie.close (tie.spec more-requires returns)
