@@ -18,18 +18,15 @@ module _ (rq : Request) (age : ℕ) (lent : Arrays) (words : List ℕ) where
       let t = lt-ltb _ _ short in
       record { code-is = rw t; high-is = rw t; low-is = rw t; points-is = rw t; words-is = rw t }
 
-  pub answered : (c : Composition) (left : Arrays) (one two three four : List ℕ) → 4 ≤ length words
-      → Composed rq age lent c left
-      → one ≡ set words 0 (c .answer .number) → two ≡ set one 1 (c .answer .place) → three ≡ set two 2 (c .answer .count)
-      → four ≡ set three 3 (c .entries)
-      → Exported rq age lent words 0 left four
-  unfolding withAnswer withEntries
-  answered c left one two three four enough composed first second third fourth =
+  pub answered : (c : Composition) (left : Arrays) (three four : List ℕ) → 4 ≤ length words → Composed rq age lent c left
+      → three ≡ withAnswer (c .answer) words → four ≡ set three 3 (c .entries) → Exported rq age lent words 0 left four
+  unfolding withEntries
+  answered c left three four enough composed third fourth =
       let t = le-ltb _ _ enough in
       record {
         code-is = rw t;
         high-is = rw t (composed .high-is);
         low-is = rw t (composed .low-is);
         points-is = rw t (composed .points-is);
-        words-is = rw (t, ← composed .answered, ← composed .counted, fourth, third, second, first);
+        words-is = rw (t, ← composed .answered, ← composed .counted, fourth, third);
       }

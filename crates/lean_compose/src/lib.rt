@@ -3,6 +3,7 @@
 ghost use Rattle.compose.specs.Afterwards.{arrays};
 ghost use Rattle.lean_compose.specs.Exported.{requestOf, Exported};
 use crossing::put;
+use crossing::put_answer;
 use request::Head;
 use units::Age;
 
@@ -44,10 +45,7 @@ pub extern "C" fn lean_compose(
         low,
         points,
     );
-    let answer = composed.answer;
-    put(words, 0, answer.number as u64);
-    put(words, 1, answer.place as u64);
-    put(words, 2, answer.count as u64);
+    put_answer(words, composed.answer);
     put(words, 3, composed.entries);
     0
 }

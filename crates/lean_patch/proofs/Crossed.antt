@@ -3,7 +3,7 @@ use mathlib.Core.Path.{_≡_}
 use mathlib.Core.List.{List}
 use Prim.Native.Nat.{ℕ, _≤_, _<_}
 use lib.IntN.{ℤ}
-use lib.ListN.{length, set}
+use lib.ListN.{length}
 use borrow.Author.Tests.{lt-ltb, le-ltb}
 use Rattle.request.specs.declared.Answer.{Answer}
 use Rattle.crossing.specs.Answered.{withAnswer}
@@ -17,15 +17,13 @@ module _ (p : Patch) (exact points : List ℤ) (words : List ℕ) where
       let t = lt-ltb _ _ short in
       record { code-is = rw t; exact-is = rw t; points-is = rw t; words-is = rw t }
 
-  pub answered : (a : Answer) (exact′ points′ : List ℤ) (one two three : List ℕ) → 3 ≤ length words → Patched p exact points a exact′ points′
-      → one ≡ set words 0 (a .number) → two ≡ set one 1 (a .place) → three ≡ set two 2 (a .count)
-      → Crosses p exact points words 0 exact′ points′ three
-  unfolding withAnswer
-  answered a exact′ points′ one two three enough patched first second third =
+  pub answered : (a : Answer) (exact′ points′ : List ℤ) (three : List ℕ) → 3 ≤ length words → Patched p exact points a exact′ points′
+      → three ≡ withAnswer a words → Crosses p exact points words 0 exact′ points′ three
+  answered a exact′ points′ three enough patched third =
       let t = le-ltb _ _ enough in
       record {
         code-is = rw t;
         exact-is = rw t (patched .exact-is);
         points-is = rw t (patched .points-is);
-        words-is = rw (t, ← patched .answered, third, second, first);
+        words-is = rw (t, ← patched .answered, third);
       }

@@ -2,7 +2,7 @@
 // length in elements.
 ghost use Rattle.patch_net.specs.Patch.{patchOf};
 ghost use Rattle.lean_patch.specs.Crossing.{Crosses};
-use crossing::put;
+use crossing::put_answer;
 
 // Composes a triangular surface of degree n with a triangular domain of degree N, and writes the number, the place and the count of
 // the answer to the first three of `words`: 0. Where `words` has fewer than three places nothing at all is written: 1.
@@ -23,8 +23,6 @@ pub extern "C" fn lean_patch(
         return 1;
     }
     let answer = patch::patch(n, N, surface, path, exact, points);
-    put(words, 0, answer.number as u64);
-    put(words, 1, answer.place as u64);
-    put(words, 2, answer.count as u64);
+    put_answer(words, answer);
     0
 }

@@ -4,7 +4,7 @@ use mathlib.Core.Bool.{true, false, not}
 use mathlib.Core.List.{List}
 use Prim.Native.Nat.{ℕ, _≤_, _<_}
 use lib.Dec.{eqb}
-use lib.ListN.{length, getD, set}
+use lib.ListN.{length, getD}
 use borrow.Author.Tests.{lt-ltb, le-ltb}
 use Rattle.saver.specs.declared.Stretch.{Stretch}
 use Rattle.saver.specs.Ahead.{lineRoom, stretchOf, Leaves}
@@ -27,15 +27,14 @@ module _ (window : List ℕ) (last : ℕ) (words line : List ℕ) where
     unfolding cramped
     roomy long = rw (le-ltb _ _ enough, le-ltb _ _ long)
 
-    pub wrote : lineRoom ≤ length line → (r : Stretch) (line′ one two three four five : List ℕ)
+    pub wrote : lineRoom ≤ length line → (r : Stretch) (line′ words′ : List ℕ)
         → Leaves (stretchOf (not (eqb last 0)) window (record { from = getD words 0 0; lost = getD words 1 0 }) line) line′ r
-        → one ≡ set words 0 (r .place .from) → two ≡ set one 1 (r .place .lost) → three ≡ set two 2 (r .skipped)
-        → four ≡ set three 3 (r .kept) → five ≡ set four 4 (r .line) → Salvaged window last words line 0 five line′
-    unfolding placeIn withStretch
-    wrote long r line′ one two three four five leaves a b c d e =
+        → words′ ≡ withStretch r words → Salvaged window last words line 0 words′ line′
+    unfolding placeIn
+    wrote long r line′ words′ leaves put =
         let t = roomy long in
         record {
           code-is = rw t;
-          words-is = rw (t, ← leaves .stretch-is, e, d, c, b, a);
+          words-is = rw (t, ← leaves .stretch-is, put);
           line-is = rw t (leaves .line-is);
         }

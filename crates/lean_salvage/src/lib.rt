@@ -1,7 +1,21 @@
 // What lies ahead in a window of a torn trace, for C and Rust, its numbers in a lent array of words.
-ghost use Rattle.lean_salvage.specs.Salvaged.{Salvaged};
+ghost use mathlib.Core.Path.{_≡_};
+ghost use Rattle.lean_salvage.specs.Salvaged.{withStretch, Salvaged};
 use crossing::put;
 use saver::Place;
+use saver::Stretch;
+
+// Writes the five numbers of what lies ahead, each where it has a place.
+fn put_stretch(words: &mut [u64], next: Stretch)
+    ensures { λ _. ⌜ now (words .exit) ≡ withStretch next (now (words .entry)) ⌝ }
+{
+    let behind = next.place;
+    put(words, 0, behind.from);
+    put(words, 1, behind.lost);
+    put(words, 2, next.skipped as u64);
+    put(words, 3, next.kept as u64);
+    put(words, 4, next.line as u64);
+}
 
 // Looks ahead in a window, behind which no more bytes come where `last` is not 0. The first two of `words` are the place: the offset from
 // which on bytes were skipped, and how many. Writes the place behind what lies ahead, how many bytes are skipped, how many behind them
@@ -20,12 +34,6 @@ pub extern "C" fn lean_salvage(window: &[u8], last: u32, words: &mut [u64], line
     let from = words[0];
     let lost = words[1];
     let place = Place { from, lost };
-    let next = saver::ahead(window, last != 0, place, line);
-    let behind = next.place;
-    put(words, 0, behind.from);
-    put(words, 1, behind.lost);
-    put(words, 2, next.skipped as u64);
-    put(words, 3, next.kept as u64);
-    put(words, 4, next.line as u64);
+    put_stretch(words, saver::ahead(window, last != 0, place, line));
     0
 }

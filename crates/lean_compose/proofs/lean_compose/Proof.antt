@@ -13,20 +13,11 @@ returns c = untouched _ _ _ _ (omega arith)
 compose-requires : tie.Need-compose-requires
 compose-requires c κs = search needs
 
-cast-put : tie.Need-cast-put
-cast-put c = search needs
+put-answer-requires : tie.Need-put-answer-requires
+put-answer-requires c κs = search needs
 
 put-requires : tie.Need-put-requires
 put-requires c κs = search needs
-
-put-requires-2 : tie.Need-put-requires-2
-put-requires-2 c κs = search needs
-
-put-requires-3 : tie.Need-put-requires-3
-put-requires-3 c κs = search needs
-
-put-requires-4 : tie.Need-put-requires-4
-put-requires-4 c κs = search needs
 
 same-length : tie.Need-same-length
 same-length c = search needs
@@ -44,14 +35,11 @@ returns-2 : tie.Need-returns-2
 returns-2 c =
     let fourth = c .before .before in
     let third = fourth .before .before .before .before in
-    let second = third .before .before .before .before in
-    let first = second .before .before .before .before in
-    let called = first .before .before .before .before .before .before .before .before in
+    let called = third .before .before .before .before .before .before in
     let args = called .before .before .before .before .before .before .before .args in
     let rq = requestOf (args .form) (args .first) (args .second) (args .N) (args .surface .now) (args .path .now) in
-    answered rq _ (arrays (args .high .now) (args .low .now) (args .points .now)) _ _ _ _ _ _ _ (omega arith) (called .compose .ensures)
-    (first .put .ensures) (second .put2 .ensures) (third .put3 .ensures)
-    (fourth .put4 .ensures)
+    answered rq _ (arrays (args .high .now) (args .low .now) (args .points .now)) _ _ _ _ _ (omega arith) (called .compose .ensures)
+    (third .put-answer .ensures) (fourth .put .ensures)
 
 pub lean-compose-spec : {M : Type 1} → statement M
 lean-compose-spec =
@@ -59,11 +47,8 @@ lean-compose-spec =
     (tie.spec
     returns
     compose-requires
-    cast-put
+    put-answer-requires
     put-requires
-    put-requires-2
-    put-requires-3
-    put-requires-4
     same-length
     same-length-2
     same-length-3

@@ -12,17 +12,8 @@ returns c = untouched _ _ _ _ (omega arith)
 patch-requires : tie.Need-patch-requires
 patch-requires c κs = search needs
 
-cast-put : tie.Need-cast-put
-cast-put c = search needs
-
-put-requires : tie.Need-put-requires
-put-requires c κs = search needs
-
-put-requires-2 : tie.Need-put-requires-2
-put-requires-2 c κs = search needs
-
-put-requires-3 : tie.Need-put-requires-3
-put-requires-3 c κs = search needs
+put-answer-requires : tie.Need-put-answer-requires
+put-answer-requires c κs = search needs
 
 same-length : tie.Need-same-length
 same-length c = search needs
@@ -36,12 +27,10 @@ same-length-3 c = search needs
 returns-2 : tie.Need-returns-2
 returns-2 c =
     let third = c .before .before in
-    let second = third .before .before .before .before in
-    let first = second .before .before .before .before in
-    let called = first .before .before .before .before .before in
+    let called = third .before .before .before .before in
     let args = called .before .before .before .before .before .args in
-    answered (patchOf (args .n) (args .N) (args .surface .now) (args .path .now)) (args .exact .now) (args .points .now) _ _ _ _ _ _ _ (omega arith)
-    (called .patch .ensures) (first .put .ensures) (second .put2 .ensures) (third .put3 .ensures)
+    answered (patchOf (args .n) (args .N) (args .surface .now) (args .path .now)) (args .exact .now) (args .points .now) _ _ _ _ _ (omega arith)
+    (called .patch .ensures) (third .put-answer .ensures)
 
 pub lean-patch-spec : {M : Type 1} → statement M
 lean-patch-spec =
@@ -49,10 +38,7 @@ lean-patch-spec =
     (tie.spec
     returns
     patch-requires
-    cast-put
-    put-requires
-    put-requires-2
-    put-requires-3
+    put-answer-requires
     same-length
     same-length-2
     same-length-3

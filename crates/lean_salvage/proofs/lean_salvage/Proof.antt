@@ -20,20 +20,8 @@ slice-read-lost c = omega arith
 ahead-requires : tie.Need-ahead-requires
 ahead-requires c κs = search needs
 
-put-requires : tie.Need-put-requires
-put-requires c κs = search needs
-
-put-requires-2 : tie.Need-put-requires-2
-put-requires-2 c κs = search needs
-
-put-requires-3 : tie.Need-put-requires-3
-put-requires-3 c κs = search needs
-
-put-requires-4 : tie.Need-put-requires-4
-put-requires-4 c κs = search needs
-
-put-requires-5 : tie.Need-put-requires-5
-put-requires-5 c κs = search needs
+put-stretch-requires : tie.Need-put-stretch-requires
+put-stretch-requires c κs = search needs
 
 same-length : tie.Need-same-length
 same-length c = search needs
@@ -42,13 +30,9 @@ same-length-2 : tie.Need-same-length-2
 same-length-2 c = search needs
 
 returns-3 : tie.Need-returns-3
-returns-3 c = wrote _ _ _ _ (omega arith) (omega arith) _ _ _ _ _ _ _ (c .before .before .before .before .before .before
-    .before .before .before .before .before .before .before .before .before .before .before .before .before .before .before
-    .before .before .ahead .ensures) (c .before .before .before .before .before .before .before .before .before .before
-    .before .before .before .before .before .before .before .before .put .ensures) (c .before .before .before .before .before
-    .before .before .before .before .before .before .before .before .before .put2 .ensures)
-    (c .before .before .before .before .before .before .before .before .before .before .put3 .ensures) (c .before .before
-    .before .before .before .before .put4 .ensures) (c .before .before .put5 .ensures)
+returns-3 c =
+    let put = c .before .before in
+    wrote _ _ _ _ (omega arith) (omega arith) _ _ _ (put .before .before .before .ahead .ensures) (put .put-stretch .ensures)
 
 pub lean-salvage-spec : {M : Type 1} → statement M
 lean-salvage-spec =
@@ -59,11 +43,7 @@ lean-salvage-spec =
     slice-read-from
     slice-read-lost
     ahead-requires
-    put-requires
-    put-requires-2
-    put-requires-3
-    put-requires-4
-    put-requires-5
+    put-stretch-requires
     same-length
     same-length-2
     returns-3)
