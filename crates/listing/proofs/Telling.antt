@@ -86,15 +86,20 @@ some-ending offset rest kept =
 
 -- ---- what is told of a pair
 
-module _ (wanted : ℕ) (alike : Bool) (number offset : ℕ) (request reply today : List ℕ) (out : Stream) where
-  pub told-alike : wanted ≡ 0 → alike ≡ true → Sends out (toldOf wanted alike number offset request reply today) out
+module _ (alike : Bool) (number offset : ℕ) (request reply today : List ℕ) (out : Stream) where
+  pub told-alike : alike ≡ true → Sends out (toldOf 0 alike number offset request reply today) out
   unfolding toldOf
-  told-alike z a = rw (eq-eqb wanted 0 z, a) (sends-none out)
+  told-alike a = rw a (sends-none out)
 
-  pub told-line : (out′ : Stream) → wanted ≡ 0 → alike ≡ false → Sends out (onPage (entryLine number offset request reply today)) out′
-      → Sends out (toldOf wanted alike number offset request reply today) out′
+  pub told-line : (out′ : Stream) → alike ≡ false → Sends out (onPage (entryLine number offset request reply today)) out′
+      → Sends out (toldOf 0 alike number offset request reply today) out′
   unfolding toldOf
-  told-line out′ z a w = rw (eq-eqb wanted 0 z, a) w
+  told-line out′ a w = rw a w
+
+module _ (wanted : ℕ) (alike : Bool) (number offset : ℕ) (request reply today : List ℕ) (out : Stream) where
+  pub told-each : (out′ : Stream) → wanted ≡ 0 → Sends out (toldOf 0 alike number offset request reply today) out′
+      → Sends out (toldOf wanted alike number offset request reply today) out′
+  told-each out′ z w = rw z w
 
   pub told-other : (wanted ≡ 0 → ⊥) → (wanted ≡ number → ⊥) → Sends out (toldOf wanted alike number offset request reply today) out
   unfolding toldOf
@@ -138,16 +143,16 @@ module _ (wanted : ℕ) (failed : Bool) (offset rest : ℕ) (kept : List ℕ) (o
 
 -- ---- what a pair adds
 
-pub adds-asked : (wanted : ℕ) (s : State) (bytes request reply today : List ℕ) (alike : Bool) (number half offset differ : ℕ) (out : Stream)
+pub adds-asked : (wanted : ℕ) (s : State) (bytes request reply today : List ℕ) (alike : Bool) (number offset differ : ℕ) (out : Stream)
     → request ≡ recordIn bytes → reply ≡ recordIn (behind bytes) → alike ≡ agrees replyOf (pairIn bytes) → today ≡ replyOf request
-    → number ≡ capped (s .calls + 1) → half ≡ capped (s .offset + length request) → offset ≡ capped (half + length reply)
+    → number ≡ capped (s .calls + 1) → offset ≡ capped (capped (s .offset + length request) + length reply)
     → differ ≡ differing wanted alike number (s .differ)
     → Sends (s .out) (toldOf wanted alike number (s .offset) request reply today) out
     → Adds (λ (t : Tale). tells replyOf wanted t (pairIn bytes)) s (record { calls = number; offset = offset; differ = differ; out = out })
 unfolding tells pairIn
-adds-asked wanted s bytes request reply today alike number half offset differ out q p a d n h o i w = record {
+adds-asked wanted s bytes request reply today alike number offset differ out q p a d n o i w = record {
   more = toldOf wanted alike number (s .offset) request reply today;
-  after = λ text. rw (i, o, h, a, n, d, q, p);
+  after = λ text. rw (i, o, a, n, d, q, p);
   sent = w;
 }
 

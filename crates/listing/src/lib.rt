@@ -6,11 +6,11 @@ use page::front;
 use shown::put_page;
 use streams::Stream;
 ghost use mathlib.Core.Path.{_≡_};
-ghost use Prim.Native.Nat.{_≤_};
+ghost use Prim.Native.Nat.{_+_, _≤_};
 ghost use lib.ListN.{length, take};
 ghost use Rattle.door.specs.Contract.{replyOf};
 ghost use Rattle.pairs.specs.Cut.{pairIn};
-ghost use Rattle.feed.specs.Feed.{given};
+ghost use Rattle.feed.specs.Feed.{capped, given};
 ghost use Rattle.listing.specs.Tale.{Tale, toldOf, differing as differingOf, tells, closing};
 ghost use Rattle.listing.specs.Contract.{Sends, Adds, Takes, Reads, Lists};
 
@@ -64,6 +64,26 @@ fn differing(wanted: u64, alike: bool, number: u64, n: u64) -> u64
     n
 }
 
+// Where all that differ are asked for: the line of a pair whose reply is not today's.
+fn tell_entry(
+    unchanged: bool,
+    number: u64,
+    offset: u64,
+    request: &[u8],
+    reply: &[u8],
+    today: &[u8],
+    out: Stream,
+) -> Stream
+    ensures { λ r. ⌜ Sends out (toldOf 0 unchanged number offset (now (request .entry)) (now (reply .entry)) (now (today .entry))) r ⌝ }
+{
+    if unchanged {
+        return out;
+    }
+    let mut line = [0u8; PAGE];
+    let n = put_entry(number, offset, request, reply, today, &mut line);
+    streams::write(out, front(&line, n))
+}
+
 // What is told of a pair: its line where all that differ are asked for, or its page.
 fn tell(
     wanted: u64,
@@ -78,12 +98,7 @@ fn tell(
     ensures { λ r. ⌜ Sends out (toldOf wanted alike number offset (now (request .entry)) (now (reply .entry)) (now (today .entry))) r ⌝ }
 {
     if wanted == 0 {
-        if alike {
-            return out;
-        }
-        let mut line = [0u8; PAGE];
-        let n = put_entry(number, offset, request, reply, today, &mut line);
-        return streams::write(out, front(&line, n));
+        return tell_entry(alike, number, offset, request, reply, today, out);
     }
     if wanted != number {
         return out;
@@ -91,6 +106,16 @@ fn tell(
     let mut page = [0u8; PAGE];
     let n = put_page(number, offset, request, reply, today, &mut page);
     streams::write(out, front(&page, n))
+}
+
+// Where the next pair begins: behind this one's request and reply.
+fn next_offset(offset: u64, request: &[u8], reply: &[u8]) -> u64
+    ensures { λ r. ⌜ r ≡ capped (capped (offset + length (now (request .entry))) + length (now (reply .entry))) ⌝ }
+{
+    capped::sum(
+        capped::sum(offset, request.len() as u64),
+        reply.len() as u64,
+    )
 }
 
 // The pair that starts here, and the door asked afresh.
@@ -118,10 +143,7 @@ fn ask(wanted: u64, state: State, pair: &[u8]) -> State
     );
     State {
         calls: number,
-        offset: capped::sum(
-            capped::sum(offset, request.len() as u64),
-            reply.len() as u64,
-        ),
+        offset: next_offset(offset, request, reply),
         differ: differing(wanted, alike, number, state.differ),
         out,
     }

@@ -46,26 +46,22 @@ slice-aggregate-tell c =
 tell-requires : tie.Need-tell-requires
 tell-requires c κs = search needs
 
-sum-requires : tie.Need-sum-requires
-sum-requires c κs = search needs
-
-sum-requires-2 : tie.Need-sum-requires-2
-sum-requires-2 c κs = search needs
+next-offset-requires : tie.Need-next-offset-requires
+next-offset-requires c κs = search needs
 
 differing-requires : tie.Need-differing-requires
 differing-requires c κs = search needs
 
 returns : tie.Need-returns
 returns c =
-    let compared = c .before .before .before .before .before .before .before in
+    let compared = c .before .before .before .before .before .before in
     let asked = compared .before .before .before in
     let found = asked .before .before in
     let request = found .before .before .record-in .ensures in
     let reply = found .record-in2 .ensures ∙ ap recordIn (found .before .behind .ensures) in
     let today = replied (asked .door-reply .ensures) refl in
-    adds-asked _ _ _ _ _ _ _ _ _ _ _ _ request reply (comparison _ _ _ _ _ _ request reply today (compared .same .ensures)) (today .front)
-    (c .before .before .before .before .before .more .ensures) (c .before .before .sum .ensures) (c .before .sum2 .ensures) (c .differing .ensures)
-    (c .before .before .before .tell .ensures)
+    adds-asked _ _ _ _ _ _ _ _ _ _ _ request reply (comparison _ _ _ _ _ _ request reply today (compared .same .ensures)) (today .front)
+    (c .before .before .before .before .more .ensures) (c .before .next-offset .ensures) (c .differing .ensures) (c .before .before .tell .ensures)
 
 pub ask-spec : {M : Type 1} → statement M
 ask-spec =
@@ -83,7 +79,6 @@ ask-spec =
     array-share-prefix-today-2
     slice-aggregate-tell
     tell-requires
-    sum-requires
-    sum-requires-2
+    next-offset-requires
     differing-requires
     returns)
