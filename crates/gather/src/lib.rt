@@ -68,7 +68,10 @@ fn group(second: usize, left: usize) -> usize
 pub fn of_group(second: usize, left: usize) -> usize
     ensures { λ r. ⌜ r ≡ ofGroup second left ⌝ }
 {
-    if second < left { left - second } else { left }
+    if left <= second {
+        return left;
+    }
+    left - second
 }
 
 fn gap(second: usize, left: usize) -> usize
@@ -270,12 +273,12 @@ pub fn last_tri(
 {
     let closed = weight * begun as u64;
     let mut c = from;
-    let mut w = weight;
+    let mut run = weight;
     while c < count {
-        let v = w * weight_of(t, c);
+        let v = run * weight_of(t, c);
         let value = steps::mix(share(t, c, 2), share(t, c, 3), net.a, net.b, net.c);
         limbs::settle(sums, s + key(t, c), v, value);
-        w = closed;
+        run = closed;
         c += 1;
     }
     (count - from) as u64

@@ -4,16 +4,16 @@ use borrow.Author.Needs.{needs}
 use Rattle.gather.proofs.of_group.Statement.{statement}
 use Rattle.gather.proofs.of_group.Tie as tie
 
+returns : tie.Need-returns
+unfolding ofGroup
+returns c = rw (le-ltb _ _ (c .if1 .taken))
+
 sub-result : tie.Need-sub-result
 sub-result c = search needs
 
-returns : tie.Need-returns
-unfolding ofGroup
-returns c = rw (lt-ltb _ _ (c .if1 .taken))
-
 returns-2 : tie.Need-returns-2
 unfolding ofGroup
-returns-2 c = rw (le-ltb _ _ (c .if1 .left))
+returns-2 c = rw (lt-ltb _ _ (c .if1 .left))
 
 pub of-group-spec : {M : Type 1} → statement M
-of-group-spec = tie.close (tie.spec sub-result returns returns-2)
+of-group-spec = tie.close (tie.spec returns sub-result returns-2)
