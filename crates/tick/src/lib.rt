@@ -8,7 +8,7 @@ ghost use lib.ListN.{length, getD, set, take};
 ghost use Rattle.whole.specs.Round.{onSideOf, nearest};
 ghost use Rattle.request.specs.Refusal.{valuePlace};
 ghost use Rattle.tick.specs.Reading.{carried, between, lower, reading};
-ghost use Rattle.tick.specs.Told.{judged, told};
+ghost use Rattle.tick.specs.Told.{notNet, judged, told};
 ghost use Rattle.tick.specs.Carried.{carriedMost, Carried};
 use request::Answer;
 use whole::Num;
@@ -127,14 +127,21 @@ fn curve(points: &[i32], k: u64) -> Num
     at(&values, 0)
 }
 
+// 3 SURFACE
+fn not_net(points: &[i32]) -> bool
+    ensures { λ r. ⌜ r ≡ notNet (now (points .entry)) ⌝ }
+{
+    if points.len() < 1 {
+        return true;
+    }
+    25 < points.len()
+}
+
 // The three refusals in their order, or the acceptance.
 fn judge(points: &[i32], k: Moment) -> Answer
     ensures { λ r. ⌜ r ≡ judged (now (points .entry)) (k .0) ⌝ }
 {
-    if points.len() < 1 {
-        return request::refusal(3, 0);
-    }
-    if 25 < points.len() {
+    if not_net(points) {
         return request::refusal(3, 0);
     }
     let moment = k.0;
