@@ -1,6 +1,6 @@
 // The rooms of a line: how many places its answer may take in each list, where the line says so, and which of them are shown.
 ghost use mathlib.Core.Path.{_≡_};
-ghost use Prim.Native.Nat.{_≤_};
+ghost use Prim.Native.Nat.{_≤_, min};
 ghost use Rattle.words.specs.Read.{Inside};
 ghost use Rattle.numbers.specs.Numbers.{most};
 ghost use Rattle.rooms.specs.Shown.{shown};
@@ -50,8 +50,9 @@ pub fn read_rooms(line: &[u8], from: Cursor, own: usize) -> Roomed
     }
     let second = next(line, word);
     if second.wrong != 0 {
+        let alone = left_over(word);
         return Roomed {
-            cursor: left_over(word),
+            cursor: alone,
             rooms: none,
         };
     }
@@ -68,6 +69,16 @@ pub fn read_rooms(line: &[u8], from: Cursor, own: usize) -> Roomed
     }
 }
 
+// As many as are counted, and no more than there is room for.
+fn at_most(count: usize, room: usize) -> usize
+    ensures { λ r. ⌜ r ≡ min count room ⌝ }
+{
+    if count < room {
+        return count;
+    }
+    room
+}
+
 // How many places of an array are shown: all where the line gives rooms, else those that the answer counts.
 pub fn shown(given: bool, count: usize, room: usize) -> usize
     ensures { λ r. ⌜ (r ≡ shown given count room) × (r ≤ room) ⌝ }
@@ -75,8 +86,5 @@ pub fn shown(given: bool, count: usize, room: usize) -> usize
     if given {
         return room;
     }
-    if count < room {
-        return count;
-    }
-    room
+    at_most(count, room)
 }

@@ -1,11 +1,18 @@
 -- `rooms::read_rooms` meets its contract: the cases of its definition. Assumes nothing.
-use mathlib.Core.Path.{refl}
+use mathlib.Core.Path.{ap}
+use Prim.Native.Nat.{ℕ}
 use native.Mathlib.Omega.{arith}
 use borrow.Author.Needs.{needs}
 use borrow.Author.Tests.{eq-eqb, ne-eqb}
-use Rattle.rooms.specs.Shown.{roomed}
+use Rattle.words.specs.declared.Cursor.{Cursor}
+use Rattle.rooms.specs.declared.Roomed.{Roomed}
+use Rattle.rooms.specs.Shown.{ownRooms, roomed}
 use Rattle.rooms.proofs.read_rooms.Statement.{statement}
 use Rattle.rooms.proofs.read_rooms.Tie as tie
+
+-- a line that gives no rooms, read up to here
+abbrev unroomed : ℕ → Cursor → Roomed
+unroomed own cursor = record { cursor = cursor; rooms = ownRooms own }
 
 next-requires : tie.Need-next-requires
 next-requires c κs = search needs
@@ -68,9 +75,8 @@ returns-3 c =
         told .if2 .left,
         ← second .next2 .ensures .is,
         ne-eqb _ _ (c .before .if3 .taken),
-        c .left-over .ensures,
       )
-          refl;
+          (ap (unroomed (there .before .before .before .before .args .own)) (c .left-over .ensures));
       inside = rw (c .left-over .ensures) (record { order = word .inside .order; end = word .inside .end });
       small-exact = omega arith;
       small-points = omega arith;
