@@ -1,6 +1,6 @@
 -- Laws of the leaves of the sheet: an odd reply by its tests, the span a point at a time. Assumes nothing.
 use mathlib.Core.Path.{_≡_, refl, sym, _∙_}
-use mathlib.Core.Bool.{true, false, not}
+use mathlib.Core.Bool.{true, false, not, _&&_}
 use mathlib.Core.List.{List}
 use Prim.Native.Nat.{ℕ, suc, _+_, _-_, _*_, _≤_, _<_}
 use native.Mathlib.Omega.{arith}
@@ -45,15 +45,9 @@ module _ (reply : List ℕ) (kind : ℕ) (e : kind ≡ wordAt reply 2) where
         size-is : eqb (length reply) (8 + 2 * countOf reply) ≡ true
         size-is = eq-eqb (length reply) (8 + 2 * countOf reply) (omega arith)
 
-        pub even-accepted : n ≡ 0 → false ≡ isOdd reply
+        pub refusal-count : (not (eqb n 0) && not (eqb m 0)) ≡ isOdd reply
         unfolding isOdd
-        even-accepted z = rw (kind-is, number-is, size-is, eq-eqb (numberOf reply) 0 (omega arith))
-
-        pub refusal-count : (n ≡ 0 → ⊥) → not (eqb m 0) ≡ isOdd reply
-        unfolding isOdd
-        refusal-count z =
-            let some = ne-eqb (numberOf reply) 0 (λ (q : numberOf reply ≡ 0). z (omega arith)) in
-            rw (kind-is, number-is, size-is, some, ← h)
+        refusal-count = rw (kind-is, number-is, size-is, ← g, ← h)
 
 -- one point more, where there was none and where there was one
 module _ (s : Span) (z : ℤ) (l m : ℤ) where

@@ -1,7 +1,9 @@
 // The daily sheet of a recorded trace (rule Daily sheet; 02, ticket 12): its types, by value, and what one reply more adds
 // to it. What a sheet is stands in specs/Sheet.antt. No function that is public asks anything of its caller.
 ghost use mathlib.Core.Path.{_≡_};
+ghost use mathlib.Core.Bool.{not, _&&_};
 ghost use Prim.Native.Nat.{_≤_};
+ghost use lib.Dec.{eqb};
 ghost use lib.Signed.{ltZ};
 ghost use Rattle.wire.specs.Words.{numberAt};
 ghost use Rattle.wire.specs.Start.{start};
@@ -24,6 +26,16 @@ pub struct Sheet {
     pub span: Span,
 }
 
+// A refusal with a count.
+fn counts_refused(number: u64, count: u64) -> bool
+    ensures { λ r. ⌜ r ≡ (not (eqb number 0) && not (eqb count 0)) ⌝ }
+{
+    if number == 0 {
+        return false;
+    }
+    count != 0
+}
+
 fn is_odd(reply: &[u8]) -> bool
     ensures { λ r. ⌜ r ≡ isOdd (now (reply .entry)) ⌝ }
 {
@@ -38,10 +50,7 @@ fn is_odd(reply: &[u8]) -> bool
     if reply.len() != 8 + 2 * (count as usize) {
         return true;
     }
-    if number == 0 {
-        return false;
-    }
-    count != 0
+    counts_refused(number, count)
 }
 
 fn less(a: Num, b: Num) -> bool

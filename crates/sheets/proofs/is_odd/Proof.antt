@@ -1,6 +1,7 @@
 -- `sheets::is_odd` meets its contract: its tests in the definition's order. Assumes nothing.
+use mathlib.Core.Path.{_∙_}
 use native.Mathlib.Omega.{arith}
-use Rattle.sheets.proofs.Leaves.{odd-kind, odd-number, odd-length, even-accepted, refusal-count}
+use Rattle.sheets.proofs.Leaves.{odd-kind, odd-number, odd-length, refusal-count}
 use borrow.Author.Needs.{needs}
 use Rattle.sheets.proofs.is_odd.Statement.{statement}
 use Rattle.sheets.proofs.is_odd.Tie as tie
@@ -35,21 +36,17 @@ returns-3 c =
     odd-length _ _ (kind .before .word-at .ensures .0) (kind .if1 .left) _ (number .before .byte-at .ensures .0) (omega arith) _
     (c .before .byte-at2 .ensures .0) (c .if3 .taken)
 
+counts-refused-requires : tie.Need-counts-refused-requires
+counts-refused-requires c κs = search needs
+
 returns-4 : tie.Need-returns-4
 returns-4 c =
     let size = c .before in
     let number = size .before .before in
     let kind = number .before .before in
-    even-accepted _ _ (kind .before .word-at .ensures .0) (kind .if1 .left) _ (number .before .byte-at .ensures .0) (omega arith) _
-    (size .before .byte-at2 .ensures .0) (size .if3 .left) (c .if4 .taken)
-
-returns-5 : tie.Need-returns-5
-returns-5 c =
-    let size = c .before in
-    let number = size .before .before in
-    let kind = number .before .before in
-    refusal-count _ _ (kind .before .word-at .ensures .0) (kind .if1 .left) _ (number .before .byte-at .ensures .0) (omega arith) _
-    (size .before .byte-at2 .ensures .0) (size .if3 .left) (c .if4 .left)
+    c .counts-refused .ensures
+    ∙ refusal-count _ _ (kind .before .word-at .ensures .0) (kind .if1 .left) _ (number .before .byte-at .ensures .0) (omega arith) _
+    (size .before .byte-at2 .ensures .0) (size .if3 .left)
 
 pub is-odd-spec : {M : Type 1} → statement M
 is-odd-spec =
@@ -63,5 +60,5 @@ is-odd-spec =
     mul-if3
     add-if3
     returns-3
-    returns-4
-    returns-5)
+    counts-refused-requires
+    returns-4)
