@@ -6,7 +6,7 @@ ghost use Prim.Native.Nat.{_≤_};
 ghost use lib.ListN.{length};
 ghost use Rattle.pairs.specs.Cut.{longestRecord};
 ghost use Rattle.feed.specs.Feed.{given};
-ghost use Rattle.sheets.specs.Sheet.{sheetIn};
+ghost use Rattle.sheets.specs.Sheet.{noSpan, sheetIn};
 ghost use Rattle.sheets.specs.Fold.{adds};
 ghost use Rattle.daily.specs.Read.{blankState, afterPart};
 use sheets::Sheet;
@@ -31,6 +31,17 @@ fn gather(sheet: Sheet, held: &[u8], size: usize) -> Sheet
     sheets::with_pair(sheet, &held[..size])
 }
 
+// The span of no points.
+fn no_span() -> Span
+    ensures { λ r. ⌜ r ≡ noSpan ⌝ }
+{
+    Span {
+        some: false,
+        least: 0,
+        most: 0,
+    }
+}
+
 // A state that has taken nothing.
 pub fn new() -> State
     ensures { λ r. ⌜ r ≡ blankState ⌝ }
@@ -41,11 +52,7 @@ pub fn new() -> State
         sheet: Sheet {
             odd: 0,
             refusals: [0u64; 11],
-            span: Span {
-                some: false,
-                least: 0,
-                most: 0,
-            },
+            span: no_span(),
         },
     }
 }

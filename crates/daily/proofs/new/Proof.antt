@@ -1,13 +1,16 @@
 -- `daily::new` meets its contract. Assumes nothing.
-use mathlib.Core.Path.{refl}
+use borrow.Author.Needs.{needs}
 use Rattle.feed.specs.Feed.{blank, heldOf}
 use Rattle.daily.specs.Read.{blankState, stateOf}
 use Rattle.daily.proofs.new.Statement.{statement}
 use Rattle.daily.proofs.new.Tie as tie
 
+no-span-requires : tie.Need-no-span-requires
+no-span-requires c κs = search needs
+
 returns : tie.Need-returns
 unfolding blankState stateOf heldOf blank
-returns c = refl
+returns c = rw (c .no-span .ensures)
 
 pub new-spec : {M : Type 1} → statement M
-new-spec = tie.close (tie.spec returns)
+new-spec = tie.close (tie.spec no-span-requires returns)
