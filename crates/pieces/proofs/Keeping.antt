@@ -15,15 +15,15 @@ use borrow.Author.Tests.{eq-eqb, ne-eqb, lt-ltb, le-ltb, ltb-true, ltb-false}
 use Rattle.spell.specs.Decimal.{Front}
 use Rattle.spell.proofs.Writing.{sets-more, front}
 use Rattle.words.specs.Words.{isBlank, every}
-use Rattle.pieces.specs.Kept.{isPassed, keptByte, isText, Cut, cutAt, Cuts}
+use Rattle.pieces.specs.Kept.{keptByte, isText, Cut, cutAt, Cuts}
 use Rattle.pieces.specs.declared.Piece.{Piece}
 use Rattle.words.proofs.Runs.{every-last}
 use Rattle.words.proofs.Cases.{clash}
 
-pub passed-empty : (s : List ℕ) → length s ≡ 0 → true ≡ isPassed s
-unfolding isPassed every
-passed-empty [] e = refl
-passed-empty (b ∷ s) e = absurd (omega arith)
+-- a line without a byte begins with no `#`
+pub no-comment : (s : List ℕ) → length s ≡ 0 → false ≡ eqb (getD s 0 0) 35
+no-comment [] e = refl
+no-comment (b ∷ s) e = absurd (omega arith)
 
 front-take : (l : List ℕ) (n : ℕ) → n ≤ length l → sets l 0 (take n l) ≡ l
 front-take l n m =

@@ -2,7 +2,8 @@
 // what was kept of the line so far. A line that is too long keeps its front. And which lines are passed over.
 ghost use mathlib.Core.Path.{_≡_};
 ghost use Prim.Native.Nat.{_≤_, min};
-ghost use lib.ListN.{length, take};
+ghost use lib.Dec.{eqb};
+ghost use lib.ListN.{length, getD, take};
 ghost use Rattle.spell.specs.Decimal.{Front};
 ghost use Rattle.pieces.specs.Kept.{isPassed, keptByte, Cuts};
 use words::is_blank;
@@ -64,14 +65,21 @@ pub fn cut(part: &[u8], at: usize, line: &mut [u8], kept: usize) -> Piece
     }
 }
 
+// Whether a line is a comment: it begins with `#`.
+fn is_comment(line: &[u8]) -> bool
+    ensures { λ r. ⌜ r ≡ eqb (getD (now (line .entry)) 0 0) 35 ⌝ }
+{
+    if line.len() == 0 {
+        return false;
+    }
+    line[0] == b'#'
+}
+
 // Whether a line is passed over.
 pub fn is_passed(line: &[u8]) -> bool
     ensures { λ r. ⌜ r ≡ isPassed (now (line .entry)) ⌝ }
 {
-    if line.len() == 0 {
-        return true;
-    }
-    if line[0] == b'#' {
+    if is_comment(line) {
         return true;
     }
     skip(line, 0, true) == line.len()
