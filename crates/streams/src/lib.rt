@@ -1,9 +1,12 @@
 // Bytes that are read and written. What a file holds cannot be promised; what is promised is which bytes went through which stream, in
 // which order. No function asks anything of its caller.
 ghost use mathlib.Core.Path.{_≡_};
+ghost use Prim.Native.Nat.{_+_};
 ghost use lib.IntN.{pos};
+ghost use lib.Signed.{ltZ};
 ghost use lib.ListN.{take};
 ghost use Rattle.io.specs.Counts.{Counts};
+ghost use Rattle.capped.specs.Capped.{capped};
 ghost use Rattle.streams.specs.Stream.{opened, Through, Wrote};
 
 // An open input or output: how many bytes went through it, and whether the last call on it failed; nothing is written to one that
@@ -20,6 +23,13 @@ pub struct Got {
     pub stream: Stream,
 }
 
+// Whether there is no descriptor.
+fn is_none(fd: i32) -> bool
+    ensures { λ r. ⌜ r ≡ ltZ fd (pos 0) ⌝ }
+{
+    fd < 0
+}
+
 // A stream of this descriptor; it has failed where there is none.
 pub fn on(fd: i32) -> Stream
     ensures { λ r. ⌜ r ≡ opened fd ⌝ }
@@ -27,7 +37,7 @@ pub fn on(fd: i32) -> Stream
     Stream {
         fd,
         count: 0,
-        failed: fd < 0,
+        failed: is_none(fd),
     }
 }
 
@@ -56,6 +66,17 @@ fn wide(n: usize) -> u64
     n as u64
 }
 
+// The stream behind so many bytes more.
+fn behind(stream: Stream, bytes: usize, failed: bool) -> Stream
+    ensures { λ r. ⌜ r ≡ record { fd = stream .fd; count = capped (stream .count + bytes); failed = failed } ⌝ }
+{
+    Stream {
+        fd: stream.fd,
+        count: capped::sum(stream.count, wide(bytes)),
+        failed,
+    }
+}
+
 // One read, asked again where a signal broke it off; below 0 where it failed. A proved loop has to end: it counts its turns down
 // from a number that no run uses up.
 fn read_once(fd: i32, part: &mut [u8]) -> isize {
@@ -81,11 +102,7 @@ pub fn read(from: Stream, part: &mut [u8]) -> Got
     let count = io::count(got, part);
     Got {
         count,
-        stream: Stream {
-            fd: from.fd,
-            count: capped::sum(from.count, wide(count)),
-            failed: got < 0,
-        },
+        stream: behind(from, count, got < 0),
     }
 }
 
@@ -96,9 +113,5 @@ pub fn write(to: Stream, bytes: &[u8]) -> Stream
     if to.failed {
         return to;
     }
-    Stream {
-        fd: to.fd,
-        count: capped::sum(to.count, wide(bytes.len())),
-        failed: !io::write_all(to.fd, bytes),
-    }
+    behind(to, bytes.len(), !io::write_all(to.fd, bytes))
 }
