@@ -1,7 +1,8 @@
 -- Laws of putting text on a page, one piece after the other. Assumes nothing.
 use mathlib.Core.Path.{_≡_, refl, sym, ap, _∙_}
 use mathlib.Core.List.{List, [], _∷_, _++_, append-nil, append-assoc}
-use Prim.Native.Nat.{ℕ, zero, suc, _+_, _-_, _/_, _%_, _≤_, _<_}
+use Prim.Native.Nat.{ℕ, zero, suc, _+_, _-_, _/_, _%_, _≤_, _<_, min}
+use native.Mathlib.Nat.{zero-min, min-zero, suc-min-suc}
 use native.Mathlib.Numerals.{add-one}
 use native.Mathlib.Omega.{arith}
 use lib.ListN.{length, getD, take, set, length-append, length-set, length-take}
@@ -167,3 +168,9 @@ digits-are n a b c d p q r s = cc
 pub byte-is : (before n a b : ℕ) → a ≡ hexDigit (n / 16) → b ≡ hexDigit n → before ∷ a ∷ b ∷ [] ≡ byteShown before n
 unfolding byteShown
 byte-is before n a b p q = cc
+
+-- no more of a page than there is
+pub take-least : (n : ℕ) (s : List ℕ) → take (min n (length s)) s ≡ take n s
+take-least zero s = rw (zero-min (length s))
+take-least (suc n) [] = rw (min-zero (suc n))
+take-least (suc n) (x ∷ s) = rw (suc-min-suc n (length s)) (ap (λ t. x ∷ t) (take-least n s))

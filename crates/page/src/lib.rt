@@ -1,6 +1,7 @@
 // Text put on a page, a lent buffer, one piece after the other: bytes, and a word with a number. Each function puts its text from a
 // place on, as far as there is room, and answers where it ends.
 ghost use mathlib.Core.Path.{_≡_};
+ghost use Prim.Native.Nat.{min};
 ghost use lib.ListN.{take};
 ghost use Rattle.page.specs.Page.{Puts, counted, numbered, hexDigit, hexed, byteShown};
 use whole::Num;
@@ -61,19 +62,29 @@ pub fn put_hex(word: &[u8], n: u64, page: &mut [u8], at: usize) -> usize
 }
 
 // A byte in hexadecimal digits, behind one that stands before it.
+fn byte_shown(before: u8, n: u64) -> [u8; 3]
+    ensures { λ r. ⌜ r ≡ byteShown before n ⌝ }
+{
+    [before, digit(n / 16), digit(n)]
+}
+
 pub fn put_byte(before: u8, n: u64, page: &mut [u8], at: usize) -> usize
     ensures { λ r. ⌜ Puts (now (page .entry)) at (byteShown before n) (now (page .exit)) r ⌝ }
 {
-    let text = [before, digit(n / 16), digit(n)];
+    let text = byte_shown(before, n);
     put(&text, page, at)
+}
+
+fn least(a: usize, b: usize) -> usize
+    ensures { λ r. ⌜ r ≡ min a b ⌝ }
+{
+    if a < b { a } else { b }
 }
 
 // The first n bytes of a page, or all of it where there are fewer.
 pub fn front(page: &[u8], n: usize) -> &[u8]
     ensures { λ r. ⌜ now r ≡ take n (now (page .entry)) ⌝ }
 {
-    if n < page.len() {
-        return &page[..n];
-    }
-    page
+    let end = least(n, page.len());
+    &page[..end]
 }

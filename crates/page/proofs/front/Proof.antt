@@ -1,19 +1,19 @@
 -- `page::front` meets its contract. Assumes nothing.
-use mathlib.Core.Path.{refl, sym}
 use native.Mathlib.Omega.{arith}
 use lib.ListN.{length-take}
-use lib.Seq.{take-all}
+use Rattle.page.proofs.Putting.{take-least}
+use borrow.Author.Needs.{needs}
 use Rattle.page.proofs.front.Statement.{statement}
 use Rattle.page.proofs.front.Tie as tie
+
+least-requires : tie.Need-least-requires
+least-requires c κs = search needs
 
 slice-aggregate-result : tie.Need-slice-aggregate-result
 slice-aggregate-result c = simp length-take (omega arith)
 
 returns : tie.Need-returns
-returns c = refl
-
-returns-2 : tie.Need-returns-2
-returns-2 c = sym (take-all (c .before .args .n) (c .before .args .page .now) (omega arith))
+returns c = rw (c .before .least .ensures) (take-least (c .before .before .before .args .n) (c .before .before .before .args .page .now))
 
 pub front-spec : {M : Type 1} → statement M
-front-spec = tie.close (tie.spec slice-aggregate-result returns returns-2)
+front-spec = tie.close (tie.spec least-requires slice-aggregate-result returns)
