@@ -1,7 +1,8 @@
 // Numbers of two bytes, as records hold them: the low byte first. Past the end of a slice its bytes count as 0, as in the
 // definitions, so that nothing is asked of a caller.
 ghost use mathlib.Core.Path.{_≡_};
-ghost use Prim.Native.Nat.{_<_};
+ghost use Prim.Native.Nat.{_-_, _<_};
+ghost use lib.IntN.{pos, negℤ};
 ghost use lib.ListN.{getD};
 ghost use Rattle.wire.specs.Words.{wordEnd, Short, wordAt, signed};
 use whole::Num;
@@ -34,6 +35,14 @@ pub fn word_at(bytes: &[u8], k: usize) -> u64
     0
 }
 
+// The number below 0 that stands as 2^16 more.
+fn below_zero(word: u64) -> Num
+    requires { ⌜ word < wordEnd ⌝ }
+    ensures { λ r. ⌜ r .0 ≡ negℤ (pos (wordEnd - word)) ⌝ }
+{
+    whole::minus(65536 - word)
+}
+
 // The signed number at byte k.
 pub fn number_at(bytes: &[u8], k: usize) -> Num
     ensures { λ r. ⌜ (r .0 ≡ signed (wordAt (now (bytes .entry)) k)) × Short (r .0) ⌝ }
@@ -42,6 +51,6 @@ pub fn number_at(bytes: &[u8], k: usize) -> Num
     if word < 32768 {
         whole::plus(word)
     } else {
-        whole::minus(65536 - word)
+        below_zero(word)
     }
 }

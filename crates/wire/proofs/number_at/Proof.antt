@@ -18,18 +18,15 @@ word-at-requires c κs = search needs
 plus-requires : tie.Need-plus-requires
 plus-requires c κs = search needs
 
-sub-minus : tie.Need-sub-minus
-sub-minus c = search needs
-
-minus-requires : tie.Need-minus-requires
-minus-requires c κs = search needs
+below-zero-requires : tie.Need-below-zero-requires
+below-zero-requires c κs = search needs
 
 returns : tie.Need-returns
 returns c = read _ _ (c .plus .ensures ∙ sym (signed-below (c .before .before .word-at .result) (omega arith))) (c .before .before .word-at .ensures)
 
 returns-2 : tie.Need-returns-2
-returns-2 c = read _ _ (c .minus .ensures ∙ sym (signed-above (c .before .before .word-at .result) (omega arith))) (c .before .before .word-at .ensures)
+returns-2 c = read _ _ (c .below-zero .ensures ∙ sym (signed-above (c .before .before .word-at .result) (omega arith))) (c .before .before .word-at .ensures)
 
 pub number-at-spec : {M : Type 1} → statement M
 number-at-spec =
-    tie.close (tie.spec word-at-requires plus-requires sub-minus minus-requires returns returns-2)
+    tie.close (tie.spec word-at-requires plus-requires below-zero-requires returns returns-2)
