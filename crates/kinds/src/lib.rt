@@ -1,7 +1,8 @@
 // A line of any kind: where its reading begins and ends, the word that names its kind, and what the reader of a kind hands back.
 ghost use mathlib.Core.Path.{_≡_};
+ghost use Rattle.words.specs.Words.{because};
 ghost use Rattle.words.specs.Read.{Inside};
-ghost use Rattle.kinds.specs.Kinds.{isWord, isKind};
+ghost use Rattle.kinds.specs.Kinds.{overlong, isWord, isKind};
 ghost use Rattle.kinds.specs.Read.{Begins, ReadsEnd};
 use words::Cursor;
 use words::LEFT_OVER;
@@ -15,16 +16,23 @@ pub struct Replied {
     pub end: usize,
 }
 
+// Where a line is wrong that is too long.
+fn overlong() -> Cursor
+    ensures { λ r. ⌜ r ≡ overlong ⌝ }
+{
+    Cursor {
+        start: 4096,
+        end: 4096,
+        wrong: TOO_LONG,
+    }
+}
+
 // Where reading begins: a line that is too long is refused at once.
 pub fn begin(line: &[u8]) -> Cursor
     ensures { λ r. ⌜ Begins (now (line .entry)) r ⌝ }
 {
     if 4096 < line.len() {
-        return Cursor {
-            start: 4096,
-            end: 4096,
-            wrong: TOO_LONG,
-        };
+        return overlong();
     }
     Cursor {
         start: 0,
@@ -33,15 +41,22 @@ pub fn begin(line: &[u8]) -> Cursor
     }
 }
 
-// A word that is left over.
-pub fn left_over(word: Cursor) -> Cursor
-    ensures { λ r. ⌜ r ≡ record { start = word .start; end = word .end; wrong = 4 } ⌝ }
+// A word that is wrong for this reason.
+fn because(word: Cursor, reason: u8) -> Cursor
+    ensures { λ r. ⌜ r ≡ because word reason ⌝ }
 {
     Cursor {
         start: word.start,
         end: word.end,
-        wrong: LEFT_OVER,
+        wrong: reason,
     }
+}
+
+// A word that is left over.
+pub fn left_over(word: Cursor) -> Cursor
+    ensures { λ r. ⌜ r ≡ record { start = word .start; end = word .end; wrong = 4 } ⌝ }
+{
+    because(word, LEFT_OVER)
 }
 
 // The end: no word is left.

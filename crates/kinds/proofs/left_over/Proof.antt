@@ -1,10 +1,13 @@
 -- `kinds::left_over` meets its contract. Assumes nothing.
-use mathlib.Core.Path.{refl}
+use borrow.Author.Needs.{needs}
 use Rattle.kinds.proofs.left_over.Statement.{statement}
 use Rattle.kinds.proofs.left_over.Tie as tie
 
+because-requires : tie.Need-because-requires
+because-requires c κs = search needs
+
 returns : tie.Need-returns
-returns c = refl
+returns c = c .because .ensures
 
 pub left-over-spec : {M : Type 1} → statement M
-left-over-spec = tie.close (tie.spec returns)
+left-over-spec = tie.close (tie.spec because-requires returns)

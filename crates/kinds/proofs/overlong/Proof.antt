@@ -1,0 +1,10 @@
+-- `kinds::overlong` meets its contract: it is the definition. Assumes nothing.
+use mathlib.Core.Path.{refl}
+use Rattle.kinds.proofs.overlong.Statement.{statement}
+use Rattle.kinds.proofs.overlong.Tie as tie
+
+returns : tie.Need-returns
+returns c = refl
+
+pub overlong-spec : {M : Type 1} → statement M
+overlong-spec = tie.close (tie.spec returns)
