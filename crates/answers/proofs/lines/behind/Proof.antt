@@ -1,5 +1,4 @@
 -- `answers::lines::behind` meets its contract. Assumes nothing.
-use mathlib.Core.Path.{ap}
 use borrow.Author.Needs.{needs}
 use Rattle.answers.specs.Contract.{behindLine}
 use Rattle.answers.proofs.lines.behind.Statement.{statement}
