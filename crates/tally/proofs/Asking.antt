@@ -36,8 +36,17 @@ decides : (r : Bool) (s t : List ℕ) → (r ≡ true → s ≡ t) → (s ≡ t 
 decides true s t to from = rw (← to refl) (sym (bytes-same s))
 decides false s t to from = sym (refuted (λ e. false≢true (from (same-bytes s t e))))
 
+pub compared : (request reply after : List ℕ) (n : ℕ) (r : Bool) → Replied request n after
+    → (r ≡ true → take n after ≡ reply) × (take n after ≡ reply → r ≡ true) → r ≡ sameBytes (replyOf request) reply
+compared request reply after n r a w = rw (← a .front) (decides r _ _ (w .0) (w .1))
+
+-- of a pair
+pub agreed : (bytes request reply : List ℕ) (r : Bool) → request ≡ recordIn bytes → reply ≡ recordIn (behind bytes)
+    → r ≡ sameBytes (replyOf request) reply → r ≡ agrees replyOf (pairIn bytes)
+unfolding agrees pairIn
+agreed bytes request reply r q p e = rw (← q, ← p) e
+
 pub comparison : (bytes request reply after : List ℕ) (n : ℕ) (r : Bool) → request ≡ recordIn bytes
     → reply ≡ recordIn (behind bytes) → Replied request n after
     → (r ≡ true → take n after ≡ reply) × (take n after ≡ reply → r ≡ true) → r ≡ agrees replyOf (pairIn bytes)
-unfolding agrees pairIn
-comparison bytes request reply after n r q p a w = rw (← q, ← p, ← a .front) (decides r _ _ (w .0) (w .1))
+comparison bytes request reply after n r q p a w = agreed bytes request reply r q p (compared request reply after n r a w)

@@ -2,20 +2,34 @@
 -- Assumes nothing.
 use mathlib.Core.Path.{_≡_, ap, _∙_}
 use mathlib.Core.List.{List}
-use Prim.Native.Nat.{ℕ}
+use Prim.Native.Nat.{ℕ, _+_, _-_, _<_}
 use native.Mathlib.Omega.{arith}
-use lib.ListN.{take}
+use lib.ListN.{length, take, drop}
+use lib.Seq.{take-all}
 use Rattle.door.specs.Contract.{replyOf}
 use Rattle.pairs.specs.Cut.{longestRecord, cut}
-use Rattle.feed.specs.Feed.{Feed, heldOf, feedIn, feedOf as fedOf}
+use Rattle.feed.specs.declared.Handed.{Handed}
+use Rattle.feed.specs.Feed.{Feed, heldOf, feedIn, feedOf as fedOf, Hands, given}
 use Rattle.feed.specs.Parts.{uncut, afterAll}
-use Rattle.feed.proofs.Reading.{Proper, held-again}
+use Rattle.feed.proofs.Parts.{none-passed}
+use Rattle.feed.proofs.Reading.{Proper, held-again, turn-passed}
 use Rattle.feed.proofs.Readers.{at-once, in-parts}
 use Rattle.fives.specs.declared.Tally.{Tally}
 use Rattle.fives.specs.Replay.{five, cappedFive}
 use Rattle.fives.specs.Count.{tallyOf, counts, noPairs}
-use Rattle.tally.specs.Read.{replayed, feedOf, readerOf, blankReader, afterPart, fiveIn}
+use Rattle.tally.specs.Read.{Turned, replayed, feedOf, readerOf, blankReader, afterPart, fiveIn}
 use Rattle.fives.proofs.Numbers.{folded-tally}
+
+-- a turn feeds some bytes of a part
+pub turn-is : (held : List ℕ) (rest : ℕ) (tally tally′ : Tally) (part held′ : List ℕ) (r : Handed) → 0 < length part
+    → Hands longestRecord held rest part held′ r → tally′ ≡ given (counts replyOf) tally held′ (r .size)
+    → Turned held rest tally part held′ (record { rest = r .rest; tally = tally′; bytes = r .bytes })
+turn-is held rest tally tally′ part held′ r some h g =
+    let all : take (length part - 0) (drop 0 part) ≡ part = take-all (length part - 0) part (omega arith) in
+    let here : Hands longestRecord held rest (take (length part - 0) (drop 0 part)) held′ r = rw all h in
+    let went = turn-passed {most = longestRecord} (omega arith) (counts replyOf) held rest tally (none-passed part) some here in
+    let so-far : 0 + r .bytes ≡ r .bytes = omega arith in
+    record { some = went .0; within = omega (arith, went .1 .within); fed-is = rw g (rw so-far at (went .1 .fed-is)) }
 
 pub reader-is : (held held′ : List ℕ) (rest : ℕ) (tally : Tally) (s : Feed Tally) → feedIn held rest tally ≡ s
     → held′ ≡ heldOf (take rest held)

@@ -1,9 +1,7 @@
 -- `tally::agree` meets its contract. Assumes nothing.
-use mathlib.Core.Path.{refl, ap, _∙_}
-use native.Mathlib.Omega.{arith}
-use lib.ListN.{length-take}
+use mathlib.Core.Path.{ap, _∙_}
 use Rattle.wire.specs.Start.{recordIn}
-use Rattle.tally.proofs.Asking.{replied, comparison}
+use Rattle.tally.proofs.Asking.{agreed}
 use borrow.Author.Needs.{needs}
 use Rattle.tally.proofs.agree.Statement.{statement}
 use Rattle.tally.proofs.agree.Tie as tie
@@ -17,38 +15,15 @@ behind-requires c κs = search needs
 record-in-requires-2 : tie.Need-record-in-requires-2
 record-in-requires-2 c κs = search needs
 
-slice-aggregate-door-reply : tie.Need-slice-aggregate-door-reply
-slice-aggregate-door-reply c = search needs
-
-door-reply-requires : tie.Need-door-reply-requires
-door-reply-requires c κs = search needs
-
-array-share-prefix-today : tie.Need-array-share-prefix-today
-array-share-prefix-today c = replied (c .before .door-reply .ensures) refl .inside
-
-slice-aggregate-same : tie.Need-slice-aggregate-same
-slice-aggregate-same c = simp length-take (omega (arith, replied (c .before .before .door-reply .ensures) refl .inside))
-
-same-requires : tie.Need-same-requires
-same-requires c κs = search needs
+is-today-requires : tie.Need-is-today-requires
+is-today-requires c κs = search needs
 
 returns : tie.Need-returns
 returns c =
-    let request = c .before .before .before .before .before .before .before .record-in .ensures in
-    let reply = c .before .before .before .before .before .record-in2 .ensures
-    ∙ ap recordIn (c .before .before .before .before .before .before .behind .ensures) in
-    comparison _ _ _ _ _ _ request reply (replied (c .before .before .before .door-reply .ensures) refl) (c .same .ensures)
+    let request = c .before .before .before .record-in .ensures in
+    let reply = c .before .record-in2 .ensures ∙ ap recordIn (c .before .before .behind .ensures) in
+    agreed _ _ _ _ request reply (c .is-today .ensures)
 
 pub agree-spec : {M : Type 1} → statement M
 agree-spec =
-    tie.close
-    (tie.spec
-    record-in-requires
-    behind-requires
-    record-in-requires-2
-    slice-aggregate-door-reply
-    door-reply-requires
-    array-share-prefix-today
-    slice-aggregate-same
-    same-requires
-    returns)
+    tie.close (tie.spec record-in-requires behind-requires record-in-requires-2 is-today-requires returns)

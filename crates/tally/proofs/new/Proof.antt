@@ -2,12 +2,16 @@
 use mathlib.Core.Path.{refl}
 use Rattle.feed.specs.Feed.{blank, heldOf}
 use Rattle.tally.specs.Read.{blankReader, readerOf}
+use borrow.Author.Needs.{needs}
 use Rattle.tally.proofs.new.Statement.{statement}
 use Rattle.tally.proofs.new.Tie as tie
 
+no-pairs-requires : tie.Need-no-pairs-requires
+no-pairs-requires c κs = search needs
+
 returns : tie.Need-returns
 unfolding blankReader readerOf heldOf blank
-returns c = refl
+returns c = rw (c .no-pairs .ensures) refl
 
 pub new-spec : {M : Type 1} → statement M
-new-spec = tie.close (tie.spec returns)
+new-spec = tie.close (tie.spec no-pairs-requires returns)

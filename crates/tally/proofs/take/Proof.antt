@@ -1,14 +1,10 @@
 -- `tally::take` meets its contract: the invariant is that the bytes of the part before i were fed. Assumes nothing.
-use mathlib.Core.Path.{sym}
 use borrow.Author.Needs.{needs}
 use native.Mathlib.Omega.{arith}
 use Prim.Native.Nat.{_-_}
 use lib.ListN.{length, length-take, length-drop}
-use Rattle.door.specs.Contract.{replyOf}
 use Rattle.feed.specs.Feed.{feedIn}
-use Rattle.feed.proofs.Parts.{Passed, none-passed, all-passed}
-use Rattle.feed.proofs.Reading.{turn-passed, handed-long}
-use Rattle.fives.specs.Count.{counts}
+use Rattle.feed.proofs.Parts.{Passed, none-passed, more-passed, all-passed}
 use Rattle.tally.specs.Read.{step, afterPart}
 use Rattle.tally.proofs.Reading.{reader-is}
 use Rattle.tally.proofs.take.Statement.{statement}
@@ -24,45 +20,30 @@ abbrev μ-loop : tie.MeasureT-loop
 loop-holds : tie.Need-loop-holds Inv-loop μ-loop
 loop-holds c = none-passed _
 
-sub-next : tie.Need-sub-next Inv-loop μ-loop
-sub-next c = search needs
+sub-take-turn : tie.Need-sub-take-turn Inv-loop μ-loop
+sub-take-turn c = search needs
 
-part-next-start : tie.Need-part-next-start Inv-loop μ-loop
-part-next-start c = search needs
+part-take-turn-start : tie.Need-part-take-turn-start Inv-loop μ-loop
+part-take-turn-start c = search needs
 
-part-next-end : tie.Need-part-next-end Inv-loop μ-loop
-part-next-end c = search needs
+part-take-turn-end : tie.Need-part-take-turn-end Inv-loop μ-loop
+part-take-turn-end c = search needs
 
-next-requires : tie.Need-next-requires Inv-loop μ-loop
-next-requires c κs = search needs
-
-slice-aggregate-gather : tie.Need-slice-aggregate-gather Inv-loop μ-loop
-slice-aggregate-gather c = sym (handed-long _ (simp (length-take, length-drop) (omega arith)) (c .before .next .ensures) .0)
-
-gather-requires : tie.Need-gather-requires Inv-loop μ-loop
-gather-requires c κs = handed-long _ (simp (length-take, length-drop) (omega arith)) (c .before .next .ensures) .1
+take-turn-requires : tie.Need-take-turn-requires Inv-loop μ-loop
+take-turn-requires c κs = simp (length-take, length-drop) (omega arith)
 
 add-i : tie.Need-add-i Inv-loop μ-loop
-add-i c =
-    let turn = c .before .before .before in
-    let at-loop = turn .before .before .before .before in
-    let loop = at-loop .loop in
-    let went = turn-passed (omega arith) (counts replyOf) _ _ (loop .tally) (loop .inv) (omega arith) (turn .next .ensures) in
-    omega (arith, went .1 .within)
+add-i c = search needs
 
 loop-less : tie.Need-loop-less Inv-loop μ-loop
-loop-less c =
-    let turn = c .before .before .before in
-    let loop = turn .before .before .before .before .loop in
-    let went = turn-passed (omega arith) (counts replyOf) _ _ (loop .tally) (loop .inv) (omega arith) (turn .next .ensures) in
-    omega (arith, went .0, went .1 .within)
+loop-less c = search needs
 
 loop-again : tie.Need-loop-again Inv-loop μ-loop
 loop-again c =
-    let turn = c .before .before .before in
-    let loop = turn .before .before .before .before .loop in
-    rw (c .before .gather .ensures)
-    (turn-passed (omega arith) (counts replyOf) _ _ (loop .tally) (loop .inv) (omega arith) (turn .next .ensures) .1)
+    let turn = c .before .before in
+    let turned = turn .take-turn .ensures in
+    more-passed (turn .before .before .before .before .loop .inv)
+    (record { some = turned .some; within = turned .within; fed-is = turned .fed-is })
 
 settle-requires : tie.Need-settle-requires Inv-loop μ-loop
 settle-requires c κs = search needs
@@ -78,12 +59,10 @@ take-spec =
     Inv-loop
     μ-loop
     loop-holds
-    sub-next
-    part-next-start
-    part-next-end
-    next-requires
-    slice-aggregate-gather
-    gather-requires
+    sub-take-turn
+    part-take-turn-start
+    part-take-turn-end
+    take-turn-requires
     add-i
     loop-less
     loop-again
