@@ -15,7 +15,7 @@ use borrow.Author.Tests.{eq-eqb, ne-eqb, lt-ltb, le-ltb, ltb-true, ltb-false}
 use Rattle.spell.specs.Decimal.{Front}
 use Rattle.spell.proofs.Writing.{sets-more, front}
 use Rattle.words.specs.Words.{isBlank, every}
-use Rattle.pieces.specs.Kept.{keptByte, isText, Cut, cutAt, Cuts}
+use Rattle.pieces.specs.Kept.{isPassed, keptByte, isText, Cut, cutAt, Cuts}
 use Rattle.pieces.specs.declared.Piece.{Piece}
 use Rattle.words.proofs.Runs.{every-last}
 use Rattle.words.proofs.Cases.{clash}

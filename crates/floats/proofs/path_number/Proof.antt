@@ -29,14 +29,23 @@ cut c k h t = c .truncating-f64-to-u64 .ensures ∙ equals _ k h t .cut
 few : (c : tie.After-truncating-f64-to-u64) → c .truncating-f64-to-u64 .result ≤ 1024
 few c = let e = c .truncating-f64-to-u64 .ensures in let f = passed (c .before) .few in omega arith
 
+none-requires : tie.Need-none-requires
+none-requires c κs = search needs
+
 returns : tie.Need-returns
 unfolding ofBits
 returns c =
-    ap pos (path-none (c .before .args .x) (λ k h t. true≢false (sym (c .if1 .taken) ∙ ap not (equals _ k h t .above))))
+    let above = sym (c .before .if1 .taken) in
+    c .none .ensures ∙ ap pos (path-none (c .before .before .args .x) (λ k h t. true≢false (above ∙ ap not (equals _ k h t .above))))
+
+none-requires-2 : tie.Need-none-requires-2
+none-requires-2 c κs = search needs
 
 returns-2 : tie.Need-returns-2
 unfolding ofBits
-returns-2 c = ap pos (path-none (c .before .before .args .x) (λ k h t. true≢false (sym (c .if2 .taken) ∙ equals _ k h t .below)))
+returns-2 c =
+    let below = sym (c .before .if2 .taken) in
+    c .none2 .ensures ∙ ap pos (path-none (c .before .before .before .args .x) (λ k h t. true≢false (below ∙ equals _ k h t .below)))
 
 truncating-f64-to-u64-requires : tie.Need-truncating-f64-to-u64-requires
 truncating-f64-to-u64-requires c κs = (passed c .over, passed c .under)
@@ -44,13 +53,16 @@ truncating-f64-to-u64-requires c κs = (passed c .over, passed c .under)
 nearest-u64-to-f64-requires : tie.Need-nearest-u64-to-f64-requires
 nearest-u64-to-f64-requires c κs = search needs
 
+none-requires-3 : tie.Need-none-requires-3
+none-requires-3 c κs = search needs
+
 returns-3 : tie.Need-returns-3
 unfolding ne float
 returns-3 c =
-    let b = c .before .before in
+    let b = c .before .before .before in
     let x = b .before .before .before .args .x in
-    let other = ap (λ y. eq y x) (sym (c .before .nearest-u64-to-f64 .ensures)) ∙ not-true _ (c .if3 .taken) in
-    ap pos (path-none x (λ k h t. true≢false (sym t ∙ ap (λ n. eq (float (pos n)) x) (sym (cut b k h t)) ∙ other)))
+    let other = ap (λ y. eq y x) (sym (c .before .before .nearest-u64-to-f64 .ensures)) ∙ not-true _ (c .before .if3 .taken) in
+    c .none3 .ensures ∙ ap pos (path-none x (λ k h t. true≢false (sym t ∙ ap (λ n. eq (float (pos n)) x) (sym (cut b k h t)) ∙ other)))
 
 cast-t6 : tie.Need-cast-t6
 cast-t6 c = let f = few (c .before .before) in record { sfits = omega arith }
@@ -67,10 +79,13 @@ pub path-number-spec : {M : Type 1} → statement M
 path-number-spec =
     tie.close
     (tie.spec
+    none-requires
     returns
+    none-requires-2
     returns-2
     truncating-f64-to-u64-requires
     nearest-u64-to-f64-requires
+    none-requires-3
     returns-3
     cast-t6
     returns-4)
