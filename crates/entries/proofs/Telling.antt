@@ -51,15 +51,15 @@ module _ (a b : List ℕ) (i : ℕ) (w : Alike a b i) where
     unfolding firstDifference
     here = rw (drop-cons a i 0 k, drop-cons b i 0 l)
 
-    pub differ-here : (getD a i 0 ≡ getD b i 0 → ⊥) → i ≡ firstDifference a b
+    pub differ-here : eqb (getD a i 0) (getD b i 0) ≡ false → i ≡ firstDifference a b
     differ-here e =
-        let none : firstDifference (drop i a) (drop i b) ≡ 0 = here ∙ rw (ne-eqb _ _ e) in
+        let none : firstDifference (drop i a) (drop i b) ≡ 0 = here ∙ rw e in
         omega (arith, w .so-far)
 
-    pub alike-more : getD a i 0 ≡ getD b i 0 → Alike a b (i + 1)
+    pub alike-more : eqb (getD a i 0) (getD b i 0) ≡ true → Alike a b (i + 1)
     alike-more e =
         let more : firstDifference (drop i a) (drop i b) ≡ suc (firstDifference (drop (suc i) a) (drop (suc i) b)) =
-        here ∙ rw (eq-eqb _ _ e) in
+        here ∙ rw e in
         record { upto = omega arith; so-far = rw (add-one i) (omega (arith, w .so-far)) }
 
 -- ---- what was asked, and what differs
@@ -158,6 +158,6 @@ module _ (offset rest : ℕ) (kept : List ℕ) where
       unfolding secondEnding lengthField
       in-second e = rw (← p, le-ltb rest (n + 2) l, ← q, ← r, e)
 
-      pub second-wrong : (o : ℕ) → t ≡ false → o ≡ capped (offset + n) → noLength m o ≡ secondEnding offset rest kept
+      pub second-wrong : (o : ℕ) → t ≡ false → o ≡ capped (offset + lengthField kept) → noLength m o ≡ secondEnding offset rest kept
       unfolding secondEnding lengthField
-      second-wrong o e f = rw (← p, le-ltb rest (n + 2) l, ← q, ← r, e, f)
+      second-wrong o e f = rw (f, ← p, le-ltb rest (n + 2) l, ← q, ← r, e)

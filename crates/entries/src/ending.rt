@@ -1,8 +1,10 @@
 // The closing line: where the reading of a night ended, and why: a length that no record has, a pair that is cut off, or the
 // trace's end.
 ghost use mathlib.Core.Path.{_≡_};
-ghost use Rattle.wire.specs.Start.{isLength};
+ghost use Prim.Native.Nat.{_+_};
+ghost use Rattle.wire.specs.Start.{lengthField, isLength};
 ghost use Rattle.pairs.specs.Cut.{longestRecord};
+ghost use Rattle.feed.specs.Feed.{capped};
 ghost use Rattle.page.specs.Page.{Puts};
 ghost use Rattle.entries.specs.Ending.{noLength, cutOff, wholeTrace, secondEnding, endingLine};
 use page::put;
@@ -40,6 +42,13 @@ fn is_length(n: u64) -> bool
     n <= pairs::LONGEST as u64
 }
 
+// Where the second record begins: behind the first.
+fn second_at(offset: u64, kept: &[u8]) -> u64
+    ensures { λ r. ⌜ r ≡ capped (offset + lengthField (now (kept .entry))) ⌝ }
+{
+    capped::sum(offset, wire::word_at(kept, 0))
+}
+
 // Behind a first record of a right length.
 fn put_second(offset: u64, rest: u64, kept: &[u8], page: &mut [u8]) -> usize
     ensures { λ r. ⌜ Puts (now (page .entry)) 0 (secondEnding offset rest (now (kept .entry))) (now (page .exit)) r ⌝ }
@@ -52,7 +61,7 @@ fn put_second(offset: u64, rest: u64, kept: &[u8], page: &mut [u8]) -> usize
     if is_length(second) {
         return put_cut(offset, rest, page);
     }
-    put_length(second, capped::sum(offset, first), page)
+    put_length(second, second_at(offset, kept), page)
 }
 
 // `rest` bytes were read from the start of the pair that is not whole, at byte `offset`; `kept` are the first of them.

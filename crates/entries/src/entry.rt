@@ -1,5 +1,7 @@
 // The line of a pair whose replies differ: where it is, what was asked, and what differs first.
 ghost use mathlib.Core.Path.{_≡_};
+ghost use lib.Dec.{eqb};
+ghost use lib.ListN.{getD};
 ghost use Rattle.page.specs.Page.{Puts};
 ghost use Rattle.entries.specs.Entry.{titleOf, askedOf, firstDifference, changeOf, kindChange, pointChange, behindChange, whatDiffers, entryLine};
 use page::put;
@@ -26,6 +28,13 @@ fn put_asked(request: &[u8], page: &mut [u8], at: usize) -> usize
     put(b": ", page, b)
 }
 
+// Whether byte i of two records is the same.
+fn is_alike(a: &[u8], b: &[u8], i: usize) -> bool
+    ensures { λ r. ⌜ r ≡ eqb (getD (now (a .entry)) i 0) (getD (now (b .entry)) i 0) ⌝ }
+{
+    byte_at(a, i) == byte_at(b, i)
+}
+
 // The first byte at which two records differ, or where the shorter ends.
 pub fn first_difference(a: &[u8], b: &[u8]) -> usize
     ensures { λ r. ⌜ r ≡ firstDifference (now (a .entry)) (now (b .entry)) ⌝ }
@@ -35,7 +44,7 @@ pub fn first_difference(a: &[u8], b: &[u8]) -> usize
         if b.len() <= i {
             return i;
         }
-        if a[i] != b[i] {
+        if !is_alike(a, b, i) {
             return i;
         }
         i += 1;

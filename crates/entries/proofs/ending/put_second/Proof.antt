@@ -43,8 +43,8 @@ returns-2 c = puts-same _ _ _ _ _ _ (c .before .before .put-cut2 .ensures)
     .before .before .before .before .before .before .behind .ensures) at (c .before .before .before .before .before .before .word-at2 .ensures .0)) _
     (c .before .before .before .before .before .is-length .ensures) (c .before .before .before .before .if2 .taken))
 
-sum-requires : tie.Need-sum-requires
-sum-requires c κs = search needs
+second-at-requires : tie.Need-second-at-requires
+second-at-requires c κs = search needs
 
 put-length-requires : tie.Need-put-length-requires
 put-length-requires c κs = search needs
@@ -57,7 +57,7 @@ returns-3 c = puts-same _ _ _ _ _ _ (c .before .before .put-length .ensures)
     (second-wrong _ _ _ _ (c .before .before .before .before .before .before .before .before .before .before .word-at .ensures .0) (omega arith) _ (rw
     (c .before .before .before .before .before .before .before .before .behind .ensures) at (c .before .before .before .before .before .before .before
     .word-at2 .ensures .0)) _ (c .before .before .before .before .before .before .is-length .ensures) _ (c .before .before .before .before .before
-    .if2 .left) (c .before .before .before .before .sum .ensures))
+    .if2 .left) (c .before .before .before .before .second-at .ensures))
 
 pub put-second-spec : {M : Type 1} → statement M
 put-second-spec =
@@ -74,7 +74,7 @@ put-second-spec =
     put-cut-requires-2
     same-length-2
     returns-2
-    sum-requires
+    second-at-requires
     put-length-requires
     same-length-3
     returns-3)

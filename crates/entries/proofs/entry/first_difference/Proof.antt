@@ -1,8 +1,11 @@
 -- `entries::entry::first_difference` meets its contract. Assumes nothing.
+use mathlib.Core.Path.{sym, _∙_}
 use Prim.Native.Nat.{_-_}
 use native.Mathlib.Omega.{arith}
 use lib.ListN.{length}
 use Rattle.entries.proofs.Telling.{Alike, alike-none, alike-more, differ-here, ended, other-ended}
+use borrow.Author.Needs.{needs}
+use borrow.Author.Tests.{not-true, not-false}
 use Rattle.entries.proofs.entry.first_difference.Statement.{statement}
 use Rattle.entries.proofs.entry.first_difference.Tie as tie
 
@@ -18,14 +21,12 @@ loop-holds c = alike-none _ _
 returns : tie.Need-returns Inv-loop μ-loop
 returns c = other-ended _ _ _ (c .before .before .loop .inv) (omega arith) (omega arith)
 
-shared-slice-read-if2 : tie.Need-shared-slice-read-if2 Inv-loop μ-loop
-shared-slice-read-if2 c = omega arith
-
-shared-slice-read-if2-2 : tie.Need-shared-slice-read-if2-2 Inv-loop μ-loop
-shared-slice-read-if2-2 c = omega arith
+is-alike-requires : tie.Need-is-alike-requires Inv-loop μ-loop
+is-alike-requires c κs = search needs
 
 returns-2 : tie.Need-returns-2 Inv-loop μ-loop
-returns-2 c = differ-here _ _ _ (c .before .before .before .before .before .loop .inv) (omega arith) (omega arith) (c .if2 .taken)
+returns-2 c = differ-here _ _ _ (c .before .before .before .before .loop .inv) (omega arith) (omega arith)
+    (sym (c .before .is-alike .ensures) ∙ not-true _ (c .if2 .taken))
 
 add-i : tie.Need-add-i Inv-loop μ-loop
 add-i c = omega arith
@@ -34,7 +35,8 @@ loop-less : tie.Need-loop-less Inv-loop μ-loop
 loop-less c = omega arith
 
 loop-again : tie.Need-loop-again Inv-loop μ-loop
-loop-again c = alike-more _ _ _ (c .before .before .before .before .before .loop .inv) (omega arith) (omega arith) (c .if2 .left)
+loop-again c = alike-more _ _ _ (c .before .before .before .before .loop .inv) (omega arith) (omega arith)
+    (sym (c .before .is-alike .ensures) ∙ not-false _ (c .if2 .left))
 
 returns-3 : tie.Need-returns-3 Inv-loop μ-loop
 returns-3 c = ended _ _ _ (c .before .loop .inv) (omega arith)
@@ -47,8 +49,7 @@ first-difference-spec =
     μ-loop
     loop-holds
     returns
-    shared-slice-read-if2
-    shared-slice-read-if2-2
+    is-alike-requires
     returns-2
     add-i
     loop-less
