@@ -32,27 +32,27 @@ no-bytes room bytes out enough none = rw none (told-few enough (omega arith) (wr
 
 -- ---- a request with its age
 
-abbrev pub headOf : List ℕ → List ℕ
-headOf q = (length q + 2) % 256 ∷ (length q + 2) / 256 ∷ 2 ∷ 0 ∷ getD q 4 0 ∷ getD q 5 0 ∷ getD q 6 0 ∷ getD q 7 0 ∷ 0 ∷ 0 ∷ []
+abbrev pub headOf : ℕ → List ℕ → List ℕ
+headOf size q = size % 256 ∷ size / 256 ∷ 2 ∷ 0 ∷ getD q 4 0 ∷ getD q 5 0 ∷ getD q 6 0 ∷ getD q 7 0 ∷ 0 ∷ 0 ∷ []
 
-head-of : {q : List ℕ} → Request q → ageless q ≡ true → aged q ≡ headOf q ++ drop 8 q
+head-of : {q : List ℕ} → Request q → ageless q ≡ true → aged q ≡ headOf (length q + 2) q ++ drop 8 q
 head-of (other plain e) k = absurd (false≢true (sym plain ∙ k))
 head-of {q} (without {e = e} {f} {g} {h} {s} kind is) k =
     let n : length q + 2 ≡ 10 + length s = omega arith in
     is ∙ rw n
 
-pub aged-head : (q : List ℕ) → shortest ≤ length q → ageless q ≡ true → aged q ≡ headOf q ++ drop 8 q
+pub aged-head : (q : List ℕ) → shortest ≤ length q → ageless q ≡ true → aged q ≡ headOf (length q + 2) q ++ drop 8 q
 aged-head q l k = head-of (request-is q l) k
 
 pub aged-size : (q : List ℕ) → shortest ≤ length q → ageless q ≡ true → length (aged q) ≡ 10 + length (drop 8 q)
-aged-size q l k = rw (aged-head q l k) (length-append (headOf q) (drop 8 q))
+aged-size q l k = rw (aged-head q l k) (length-append (headOf (length q + 2) q) (drop 8 q))
 
-pub aged-written : (q : List ℕ) → shortest ≤ length q → ageless q ≡ true → {l n : List ℕ} {i k : ℕ}
-    → Written (10 + length (take (length q - 8) (drop 8 q))) l i (headOf q ++ take (length q - 8) (drop 8 q)) n k
+pub aged-written : (q : List ℕ) → shortest ≤ length q → ageless q ≡ true → (size : ℕ) → size ≡ length q + 2 → {l n : List ℕ} {i k : ℕ}
+    → Written (10 + length (take (length q - 8) (drop 8 q))) l i (headOf size q ++ take (length q - 8) (drop 8 q)) n k
     → Written (length (aged q)) l i (aged q) n k
-aged-written q m e w =
+aged-written q m e size is w =
     let all : take (length q - 8) (drop 8 q) ≡ drop 8 q = take-all (length q - 8) (drop 8 q) (rw length-drop (omega arith)) in
-    rw (aged-size q m e, aged-head q m e) (rw all at w)
+    rw (aged-size q m e, aged-head q m e) (rw (all, is) at w)
 
 -- one byte
 pub byte-written : (l : List ℕ) (i b : ℕ) → Written 1 l i (b ∷ []) (set l i b) (i + 1)

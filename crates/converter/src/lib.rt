@@ -6,11 +6,12 @@ ghost use mathlib.Core.Path.{_≡_};
 ghost use mathlib.Core.Bool.{true};
 ghost use mathlib.Core.List.{[]};
 ghost use Prim.Native.Nat.{_+_, _≤_};
+ghost use lib.Dec.{leb};
 ghost use lib.ListN.{length, take};
-ghost use Rattle.pairs.specs.Cut.{startsPair};
-ghost use Rattle.feed.specs.Feed.{heldRoom, given};
+ghost use Rattle.pairs.specs.Cut.{longestRecord, startsPair};
+ghost use Rattle.feed.specs.Feed.{heldRoom, blank, given};
 ghost use Rattle.aging.specs.Convert.{formerLongest, ageless as agelessIn, aged, startsLong, endsLong};
-ghost use Rattle.converter.specs.Put.{counts, agedBytes, begun, feedOf, lastOut, partRoom, outRoom, front};
+ghost use Rattle.converter.specs.Put.{counts, agedBytes, begun, converterOf, feedOf, lastOut, partRoom, outRoom, front};
 ghost use Rattle.converter.specs.Put.{afterPart, Fills, turnOut, Handing, Plain, Writes};
 ghost use Rattle.spell.specs.Decimal.{Told};
 use feed::Handed;
@@ -67,12 +68,19 @@ fn gather(changed: u64, held: &[u8], size: usize) -> u64
     changed
 }
 
+// The length of a request with its age.
+fn aged_length(request: &[u8]) -> usize
+    ensures { λ r. ⌜ r ≡ length (now (request .entry)) + 2 ⌝ }
+{
+    request.len() + 2
+}
+
 // A request without an age, with age 0.
 fn put_aged(request: &[u8], out: &mut [u8], at: usize) -> usize
     requires { ⌜ Plain (now request) × (at + length (aged (now request)) ≤ length (now out)) ⌝ }
     ensures { λ r. ⌜ Writes (aged (now (request .entry))) (now (out .entry)) at (now (out .exit)) r ⌝ }
 {
-    let size = request.len() + 2;
+    let size = aged_length(request);
     let mut head = [0u8; 10];
     head[0] = (size % 256) as u8;
     head[1] = (size / 256) as u8;
@@ -100,6 +108,13 @@ fn put_pair(pair: &[u8], out: &mut [u8], at: usize) -> usize
     spell::write_bytes(reply, out, next)
 }
 
+// So much is kept that no pair can become whole any more; it was put out when it came.
+fn has_ended(rest: u64) -> bool
+    ensures { λ r. ⌜ r ≡ leb heldRoom rest ⌝ }
+{
+    HELD <= rest
+}
+
 // What a turn puts out: the pair that it handed on, or all that is kept where that is as much as can be, or behind that its byte.
 fn put_turn(held: &[u8], turn: Handed, before: u64, b: u8, out: &mut [u8], at: usize) -> usize
     requires { ⌜ Handing (now held) (turn .size) × (at + length (turnOut (now held) turn before b) ≤ length (now out)) ⌝ }
@@ -109,7 +124,7 @@ fn put_turn(held: &[u8], turn: Handed, before: u64, b: u8, out: &mut [u8], at: u
     if size != 0 {
         return put_pair(&held[..size], out, at);
     }
-    if HELD <= before {
+    if has_ended(before) {
         out[at] = b;
         return at + 1;
     }
@@ -119,15 +134,22 @@ fn put_turn(held: &[u8], turn: Handed, before: u64, b: u8, out: &mut [u8], at: u
     at
 }
 
-// A converter that has taken nothing.
-pub fn new() -> Converter
-    ensures { λ r. ⌜ r ≡ begun ⌝ }
+// A converter that keeps nothing.
+fn blank(changed: u64) -> Converter
+    ensures { λ r. ⌜ r ≡ converterOf (blank changed) ⌝ }
 {
     Converter {
         held: [0u8; 256],
         rest: 0,
-        changed: 0,
+        changed,
     }
+}
+
+// A converter that has taken nothing.
+pub fn new() -> Converter
+    ensures { λ r. ⌜ r ≡ begun ⌝ }
+{
+    blank(0)
 }
 
 // All of a part, where there is room for what it can put out.
@@ -212,10 +234,17 @@ pub fn last(converter: Converter, out: &mut [u8]) -> usize
     if out.len() < 256 {
         return 0;
     }
-    if HELD <= rest {
+    if has_ended(rest) {
         return 0;
     }
     spell::write_bytes(kept(&held, rest), out, 0)
+}
+
+// Not over the greatest length of a record that is read today.
+fn fits_today(n: u64) -> bool
+    ensures { λ r. ⌜ r ≡ leb n longestRecord ⌝ }
+{
+    n <= 128
 }
 
 // A record's length stands here, and it is 127 or 128.
@@ -229,7 +258,7 @@ fn starts_long(bytes: &[u8]) -> bool
     if n < 127 {
         return false;
     }
-    n <= 128
+    fits_today(n)
 }
 
 fn ends_long(left: &[u8]) -> bool

@@ -1,13 +1,15 @@
 -- `converter::new` meets its contract. Assumes nothing.
-use mathlib.Core.Path.{refl}
-use Rattle.feed.specs.Feed.{blank, heldOf}
-use Rattle.converter.specs.Put.{begun, converterOf}
+use Rattle.converter.specs.Put.{begun}
+use borrow.Author.Needs.{needs}
 use Rattle.converter.proofs.new.Statement.{statement}
 use Rattle.converter.proofs.new.Tie as tie
 
+blank-requires : tie.Need-blank-requires
+blank-requires c κs = search needs
+
 returns : tie.Need-returns
-unfolding begun converterOf heldOf blank
-returns c = refl
+unfolding begun
+returns c = c .blank .ensures
 
 pub new-spec : {M : Type 1} → statement M
-new-spec = tie.close (tie.spec returns)
+new-spec = tie.close (tie.spec blank-requires returns)

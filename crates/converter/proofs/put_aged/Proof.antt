@@ -7,8 +7,8 @@ use borrow.Author.Needs.{needs}
 use Rattle.converter.proofs.put_aged.Statement.{statement}
 use Rattle.converter.proofs.put_aged.Tie as tie
 
-add-size : tie.Need-add-size
-add-size c = search needs
+aged-length-requires : tie.Need-aged-length-requires
+aged-length-requires c κs = search needs
 
 cast-head : tie.Need-cast-head
 cast-head c = search needs
@@ -55,9 +55,9 @@ slice-aggregate-write-bytes c = search needs
 write-bytes-requires : tie.Need-write-bytes-requires
 write-bytes-requires c κs = omega (
   arith,
-  aged-size _ (c .before .before .before .before .before .before .before .before .pre .0 .0) (c .before
-      .before .before .before .before .before .before .before .pre .0 .2),
-  c .before .before .before .before .before .before .before .before .pre .1,
+  aged-size _ (c .before .before .before .before .before .before .before .before .before .pre .0 .0) (c .before
+      .before .before .before .before .before .before .before .before .pre .0 .2),
+  c .before .before .before .before .before .before .before .before .before .pre .1,
 )
 
 sub-write-bytes : tie.Need-sub-write-bytes
@@ -74,12 +74,12 @@ write-bytes-requires-2 c κs =
     simp (length-take, length-drop)
     (omega (
       arith,
-      aged-size _ (c .before .before .before .before .before .before .before .before .before .before .before .before .before
-          .pre .0 .0) (c .before .before .before .before .before .before .before .before .before .before .before .before .before .pre .0 .2),
+      aged-size _ (c .before .before .before .before .before .before .before .before .before .before .before .before .before .before
+          .pre .0 .0) (c .before .before .before .before .before .before .before .before .before .before .before .before .before .before .pre .0 .2),
       c .before
-          .before .before .before .before .before .before .before .before .before .before .before .before .pre .1,
+          .before .before .before .before .before .before .before .before .before .before .before .before .before .pre .1,
       length-drop 8 (c .before
-          .before .before .before .before .before .before .before .before .before .before .before .before .args .request .now),
+          .before .before .before .before .before .before .before .before .before .before .before .before .before .args .request .now),
       c .before .before
           .before .before .write-bytes .ensures .ends,
     ))
@@ -89,18 +89,15 @@ same-length c = search needs
 
 returns : tie.Need-returns
 returns c =
-    aged-written (c .before .before .before .before .before .before .before .before .before .before .before .before .before .before .before
-    .before .args .request .now) (c .before .before .before .before .before .before .before .before .before .before .before .before .before
-    .before .before .before .pre .0 .0) (c .before .before .before .before .before .before .before .before .before .before .before .before
-    .before .before .before .before .pre .0 .2)
-    (written-then _ _ _ _ _ _ _ _ _ _ (c .before .before .before .before .before .before .before .write-bytes .ensures) (c .before .before
-    .write-bytes2 .ensures))
+    let start = c .before .before .before .before .before .before .before .before .before .before .before .before .before .before .before .before .before in
+    aged-written (start .args .request .now) (start .pre .0 .0) (start .pre .0 .2) _ (c .before .before .before .before .before .before .before .before .before .before .before .before .before .before .aged-length .ensures)
+    (written-then _ _ _ _ _ _ _ _ _ _ (c .before .before .before .before .before .before .before .write-bytes .ensures) (c .before .before .write-bytes2 .ensures))
 
 pub put-aged-spec : {M : Type 1} → statement M
 put-aged-spec =
     tie.close
     (tie.spec
-    add-size
+    aged-length-requires
     cast-head
     array-write-head
     cast-head-2
