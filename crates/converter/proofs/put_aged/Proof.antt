@@ -53,12 +53,9 @@ slice-aggregate-write-bytes : tie.Need-slice-aggregate-write-bytes
 slice-aggregate-write-bytes c = search needs
 
 write-bytes-requires : tie.Need-write-bytes-requires
-write-bytes-requires c κs = omega (
-  arith,
-  aged-size _ (c .before .before .before .before .before .before .before .before .before .pre .0 .0) (c .before
-      .before .before .before .before .before .before .before .before .pre .0 .2),
-  c .before .before .before .before .before .before .before .before .before .pre .1,
-)
+write-bytes-requires c κs =
+    let s = c .before .before .before .before .before .before .before .before .before in
+    omega (arith, aged-size _ (s .pre .0 .0) (s .pre .0 .2), s .pre .1)
 
 sub-write-bytes : tie.Need-sub-write-bytes
 sub-write-bytes c = search needs
@@ -71,17 +68,15 @@ part-write-bytes-end c = search needs
 
 write-bytes-requires-2 : tie.Need-write-bytes-requires-2
 write-bytes-requires-2 c κs =
+    let first = c .before .before .before .before in
+    let s = first .before .before .before .before .before .before .before .before .before .before in
     simp (length-take, length-drop)
     (omega (
       arith,
-      aged-size _ (c .before .before .before .before .before .before .before .before .before .before .before .before .before .before
-          .pre .0 .0) (c .before .before .before .before .before .before .before .before .before .before .before .before .before .before .pre .0 .2),
-      c .before
-          .before .before .before .before .before .before .before .before .before .before .before .before .before .pre .1,
-      length-drop 8 (c .before
-          .before .before .before .before .before .before .before .before .before .before .before .before .before .args .request .now),
-      c .before .before
-          .before .before .write-bytes .ensures .ends,
+      aged-size _ (s .pre .0 .0) (s .pre .0 .2),
+      s .pre .1,
+      length-drop 8 (s .args .request .now),
+      first .write-bytes .ensures .ends,
     ))
 
 same-length : tie.Need-same-length
@@ -89,9 +84,12 @@ same-length c = search needs
 
 returns : tie.Need-returns
 returns c =
-    let start = c .before .before .before .before .before .before .before .before .before .before .before .before .before .before .before .before .before in
-    aged-written (start .args .request .now) (start .pre .0 .0) (start .pre .0 .2) _ (c .before .before .before .before .before .before .before .before .before .before .before .before .before .before .aged-length .ensures)
-    (written-then _ _ _ _ _ _ _ _ _ _ (c .before .before .before .before .before .before .before .write-bytes .ensures) (c .before .before .write-bytes2 .ensures))
+    let second = c .before .before in
+    let first = second .before .before .before .before .before in
+    let size = first .before .before .before .before .before .before .before in
+    let s = size .before .before .before in
+    aged-written (s .args .request .now) (s .pre .0 .0) (s .pre .0 .2) _ (size .aged-length .ensures)
+    (written-then _ _ _ _ _ _ _ _ _ _ (first .write-bytes .ensures) (second .write-bytes2 .ensures))
 
 pub put-aged-spec : {M : Type 1} → statement M
 put-aged-spec =

@@ -37,7 +37,8 @@ returns-3 : tie.Need-returns-3
 returns-3 c =
     let put = c .before .before .before .before in
     closed-line _ _ _ _ _ _ _ (omega arith) (put .before .before .before .before .before .if2 .left)
-    (paged _ _ _ _ _ _ _ (some-ending _ _ _) refl (rw (put .before .before .front .ensures) at (put .put-ending .ensures)) (c .before .front2 .ensures) (c .write .ensures))
+    (paged _ _ _ _ _ _ _ (some-ending _ _ _) refl (rw (put .before .before .front .ensures) at (put .put-ending .ensures)) (c .before .front2
+    .ensures) (c .write .ensures))
 
 pub close-spec : {M : Type 1} → statement M
 close-spec =

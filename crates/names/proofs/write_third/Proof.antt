@@ -18,7 +18,10 @@ same-length c = search needs
 
 returns : tie.Need-returns
 unfolding nameOf
-returns c = named-by (c .before .before .before .before .before .before .before .args .n) 9 _ _ _ _ _ _ (c .before .before .write-bytes .ensures) (omega arith) refl (omega arith)
+returns c =
+    let put = c .before .before in
+    let s = put .before .before .before .before .before in
+    named-by (s .args .n) 9 _ _ _ _ _ _ (put .write-bytes .ensures) (omega arith) refl (omega arith)
 
 slice-aggregate-write-bytes-2 : tie.Need-slice-aggregate-write-bytes-2
 slice-aggregate-write-bytes-2 c = search needs
@@ -31,7 +34,10 @@ same-length-2 c = search needs
 
 returns-2 : tie.Need-returns-2
 unfolding nameOf
-returns-2 c = named-by (c .before .before .before .before .before .before .before .before .args .n) 10 _ _ _ _ _ _ (c .before .before .write-bytes2 .ensures) (omega arith) refl (omega arith)
+returns-2 c =
+    let put = c .before .before in
+    let s = put .before .before .before .before .before .before in
+    named-by (s .args .n) 10 _ _ _ _ _ _ (put .write-bytes2 .ensures) (omega arith) refl (omega arith)
 
 slice-aggregate-write-bytes-3 : tie.Need-slice-aggregate-write-bytes-3
 slice-aggregate-write-bytes-3 c = search needs
@@ -44,7 +50,10 @@ same-length-3 c = search needs
 
 returns-3 : tie.Need-returns-3
 unfolding nameOf
-returns-3 c = named-by (c .before .before .before .before .before .before .before .before .before .args .n) 11 _ _ _ _ _ _ (c .before .before .write-bytes3 .ensures) (omega arith) refl (omega arith)
+returns-3 c =
+    let put = c .before .before in
+    let s = put .before .before .before .before .before .before .before in
+    named-by (s .args .n) 11 _ _ _ _ _ _ (put .write-bytes3 .ensures) (omega arith) refl (omega arith)
 
 returns-4 : tie.Need-returns-4
 returns-4 c = nameless _ _ _ (past-names _ (omega arith))
