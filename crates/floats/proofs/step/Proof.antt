@@ -1,5 +1,5 @@
 -- `floats::step` meets its contract: it computes `mixed`, which is exact (`step-law`). Assumes nothing.
-use mathlib.Core.Path.{_≡_, ap, _∙_}
+use mathlib.Core.Path.{ap}
 use borrow.Author.Needs.{needs}
 use Rattle.floats.specs.Float.{bits}
 use Rattle.floats.specs.Step.{mixed}
