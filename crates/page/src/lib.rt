@@ -68,6 +68,7 @@ fn byte_shown(before: u8, n: u64) -> [u8; 3]
     [before, digit(n / 16), digit(n)]
 }
 
+// The same, put on a page.
 pub fn put_byte(before: u8, n: u64, page: &mut [u8], at: usize) -> usize
     ensures { λ r. ⌜ Puts (now (page .entry)) at (byteShown before n) (now (page .exit)) r ⌝ }
 {
