@@ -1,5 +1,7 @@
 // The answer lines, written into a lent buffer: of a request, its number, place, count and entries, then both lists; of a reading
 // at a tick, its number, place and reading.
+mod long_decimal;
+
 ghost use mathlib.Core.List.{[], _∷_};
 ghost use mathlib.Core.Path.{_≡_};
 ghost use Prim.Native.Nat.{_+_, _*_, _≤_, _<_};
@@ -8,7 +10,7 @@ ghost use lib.ListN.{length, getD};
 ghost use Rattle.spell.specs.Decimal.{decimal, Written};
 ghost use Rattle.two_words.specs.Words.{twoWords, numbersOf};
 ghost use Rattle.answer_line.specs.Answer.{spaced, judged, verdict, lists, answerLine, patchLine, readingLine, Listed};
-use long_decimal::write_words;
+use crate::long_decimal::write_words;
 use spell::write_bytes;
 use spell::write_natural;
 use spell::write_next_natural;

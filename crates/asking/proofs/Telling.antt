@@ -10,15 +10,15 @@ use lib.ListN.{length, getD, take, drop, set, length-append, length-take, length
 use lib.Seq.{sets, take-all, take-add}
 use borrow.Author.Tests.{eq-eqb, ne-eqb, le-ltb, ltb-true}
 use Rattle.spell.proofs.Writing.{front-read}
-use Rattle.words.specs.Words.{isBlank}
-use Rattle.pieces.specs.Kept.{keptByte, Cut, cutAt}
+use Rattle.text.specs.words.Words.{isBlank}
+use Rattle.text.specs.pieces.Kept.{keptByte, Cut, cutAt}
 use Rattle.feed.specs.Parts.{fed}
 use Rattle.feed.proofs.Parts.{fed-more}
 use Rattle.names.proofs.Naming.{front-taken}
 use Rattle.names.specs.Names.{nameOf, firstWidth, firstNumber, byName}
-use Rattle.answers.specs.Answer.{answerOf, complaintOf}
-use Rattle.answers.specs.Contract.{enough, Takes}
-use Rattle.answers.specs.declared.lines.Taken.{Taken}
+use Rattle.asking.specs.answers.Answer.{answerOf, complaintOf}
+use Rattle.asking.specs.answers.Contract.{enough, Takes}
+use Rattle.asking.specs.declared.answers.lines.Taken.{Taken}
 use Rattle.streams.specs.declared.Stream.{Stream}
 use Rattle.streams.specs.Stream.{Through, through-none, through-more, Wrote, wrote-none, wrote-more}
 use Rattle.asking.specs.Told.{Told, How, shownBy, blamed, keeping, lineEnded, after, untold, toldOf}

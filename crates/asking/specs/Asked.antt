@@ -7,7 +7,7 @@ use Prim.Native.Nat.{ℕ}
 use lib.Dec.{eqb}
 use lib.ListN.{length, take}
 use Rattle.feed.specs.Parts.{fed}
-use Rattle.answers.specs.declared.lines.Taken.{Taken}
+use Rattle.asking.specs.declared.answers.lines.Taken.{Taken}
 use Rattle.streams.specs.Stream.{Through, Wrote}
 use Rattle.streams.specs.declared.Stream.{Stream}
 use Rattle.asking.specs.Told.{Told, How, shownBy, blamed, after, toldOf}

@@ -5,11 +5,11 @@ use mathlib.Core.List.{List, [], _++_}
 use Prim.Native.Nat.{ℕ, _+_}
 use lib.Dec.{eqb}
 use lib.ListN.{length}
-use Rattle.pieces.specs.Kept.{keptByte}
+use Rattle.text.specs.pieces.Kept.{keptByte}
 use Rattle.feed.specs.Parts.{fed}
 use Rattle.feed.specs.Feed.{capped}
 use Rattle.names.specs.Names.{byName}
-use Rattle.answers.specs.Answer.{answerOf, complaintOf}
+use Rattle.asking.specs.answers.Answer.{answerOf, complaintOf}
 
 -- what is kept of the line that is not whole yet, its number, what was answered and complained so far, and whether a line was
 -- unreadable

@@ -1,13 +1,15 @@
 // Answering an input: parts of it are read, and what `answers` says to a line is written out where the line ends. What a file
 // holds is not known here; it is promised that what was written is what is told of what was read.
+mod answers;
+
 ghost use mathlib.Core.Path.{_≡_};
 ghost use Prim.Native.Nat.{_+_, _≤_};
 ghost use lib.ListN.{length, take};
 ghost use Rattle.streams.specs.Stream.{Wrote};
 ghost use Rattle.asking.specs.Told.{shownBy, telling};
 ghost use Rattle.asking.specs.Asked.{Puts, Carries, Read, Answered};
-use answers::Lines;
-use answers::Taken;
+use crate::answers::Lines;
+use crate::answers::Taken;
 use streams::Stream;
 
 // Where the answering stands: how much of a line is kept, the outputs, and whether a line could not be read.
@@ -99,7 +101,7 @@ fn take_part(
     let mut at = 0;
     while at < part.len() {
         let lines = told.lines;
-        let taken = answers::take(part, at, lines, line, out, err);
+        let taken = crate::answers::take(part, at, lines, line, out, err);
         told = put(name, by_names, out, err, spare, taken, told);
         at = taken.at;
     }

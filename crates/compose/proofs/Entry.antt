@@ -55,6 +55,10 @@ pub entries-none : (h : Head) → h .form ≡ 2 → 0 ≡ entriesOf h
 unfolding entriesOf
 entries-none h is = sym (at-tensor h _ _ _ is)
 
+-- an answer of number 0 is an acceptance
+pub grants : (rq : Request) (age : ℕ) (rooms : Rooms) (a : Answer) → a ≡ answer rq age rooms → a .number ≡ 0 → Accepted rq age rooms
+grants rq age rooms a eq number = accepts rq age rooms (ap (λ (b : Answer). b .number) (sym eq) ∙ number)
+
 -- what acceptance leaves of a request
 pub composable : (rq : Request) (age : ℕ) (rooms : Rooms) → Accepted rq age rooms → Composable rq
 unfolding notValue notParameter notBalance
@@ -82,7 +86,7 @@ pub record Granted (rq : Request) (lent : Arrays) (count : ℕ) : Type 0 where
 pub granted : (rq : Request) (age : ℕ) (lent : Arrays) (a : Answer) → a ≡ answer rq age (roomsOf lent) → a .number ≡ 0 → Granted rq lent (a .count)
 unfolding accepted notRoom longest
 granted rq age lent a eq number =
-    let f = accepts rq age (roomsOf lent) (ap (λ (b : Answer). b .number) (sym eq) ∙ number) in
+    let f = grants rq age (roomsOf lent) a eq number in
     let is : a .count ≡ degree (rq .head) * rq .head .N + 1 = ap (λ (b : Answer). b .count) (eq ∙ f .answered) in
     let L : longest (rq .head) ≤ mostDegree * mostN = longest-most (rq .head) (f .degrees) in
     let all = or-none _ _ (f .room) in

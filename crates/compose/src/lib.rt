@@ -2,8 +2,9 @@
 // accepted one has its exact numerators, as a high and a low word each, and its rounded points written to the three lent arrays.
 ghost use mathlib.Core.Path.{_≡_};
 ghost use Rattle.request.specs.Request.{requestOf};
+ghost use Rattle.request.specs.Refusal.{answer};
 ghost use Rattle.sums.specs.Contract.{Formed};
-ghost use Rattle.compose.specs.Afterwards.{arrays, entriesOf};
+ghost use Rattle.compose.specs.Afterwards.{arrays, roomsOf, entriesOf};
 ghost use Rattle.compose.specs.Contract.{Composed};
 use request::Answer;
 use request::Head;
@@ -34,6 +35,27 @@ fn refused(answer: Answer) -> Composition
     Composition { answer, entries: 0 }
 }
 
+// The judge's answer, which asks of the three arrays their rooms alone.
+fn judged(
+    head: Head,
+    age: Age,
+    surface: &[i32],
+    path: &[i32],
+    high: &[i64],
+    low: &[u64],
+    points: &[i32],
+) -> Answer
+    ensures { λ r. ⌜ r ≡ answer (requestOf head (now (surface .entry)) (now (path .entry))) (age .0)
+        (roomsOf (arrays (now (high .entry)) (now (low .entry)) (now (points .entry)))) ⌝ }
+{
+    let rooms = Rooms {
+        high: high.len(),
+        low: low.len(),
+        points: points.len(),
+    };
+    judge::judge(head, age, surface, path, rooms)
+}
+
 // Composes a surface and a path, on a tilt sample of the given age. The answer is a number, a place and a count: 0, 0, L+1
 // where the request is accepted, and then the first L+1 places of the three arrays are written; else the refusal's number and
 // place and count 0, and all three are as they were.
@@ -50,12 +72,7 @@ pub fn compose(
         (arrays (now (high .entry)) (now (low .entry)) (now (points .entry))) c
         (arrays (now (high .exit)) (now (low .exit)) (now (points .exit))) ⌝ }
 {
-    let rooms = Rooms {
-        high: high.len(),
-        low: low.len(),
-        points: points.len(),
-    };
-    let answer = judge::judge(head, age, surface, path, rooms);
+    let answer = judged(head, age, surface, path, high, low, points);
     if answer.number != 0 {
         return refused(answer);
     }

@@ -8,7 +8,7 @@ use Rattle.pairs.specs.Cut.{longestRecord}
 use Rattle.fives.specs.Replay.{five, cappedFive}
 use Rattle.fives.specs.Lines.{fiveLines}
 use Rattle.door.specs.Contract.{replyBy}
-use Rattle.tally.specs.Read.{replayed}
+use Rattle.door.specs.tally.Read.{replayed}
 use Rattle.aging.specs.Convert.{formerLongest, converted, refuses}
 use Rattle.aging.proofs.Same.{same-five}
 use Rattle.aging.proofs.Again.{again}

@@ -4,7 +4,7 @@ use Rattle.reading.specs.Parts.{Tells}
 use Rattle.streams.specs.declared.Stream.{Stream}
 use Rattle.pairs.specs.Cut.{longestRecord}
 use Rattle.sheets.specs.Sheet.{sheetIn}
-use Rattle.sheet_lines.specs.Lines.{sheetLines}
+use Rattle.day.specs.sheet_lines.Lines.{sheetLines}
 use Rattle.day.specs.declared.Told.{Told}
 
 abbrev pub Sheets : Stream → Stream → Told → Type 0

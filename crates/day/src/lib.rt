@@ -1,9 +1,12 @@
 // A day's trace as it comes from an input: its sheet and the fourteen lines. What a file holds is not known here; it is promised that
 // what was written is the sheet of the bytes that were read.
+pub mod daily;
+mod sheet_lines;
+
 ghost use Rattle.reading.specs.Parts.{Took};
-ghost use Rattle.daily.specs.Read.{afterPart};
+ghost use Rattle.day.specs.daily.Read.{afterPart};
 ghost use Rattle.day.specs.Telling.{Sheets};
-use daily::State;
+use crate::daily::State;
 use progress::Progress;
 use sheets::Sheet;
 use streams::Stream;
@@ -31,7 +34,7 @@ fn read_part(input: Stream, state: State, part: &mut [u8]) -> Day
     let behind = got.stream;
     Day {
         input: behind,
-        state: daily::take(state, &part[..n]),
+        state: crate::daily::take(state, &part[..n]),
         count: n,
     }
 }
@@ -76,7 +79,7 @@ pub fn sheet_all(input: Stream, progress: bool, out: Stream) -> Told
 {
     let mut part = io::large_buffer();
     let mut lines = [0u8; 628];
-    let day = read_all(input, daily::new(), &mut part, progress);
+    let day = read_all(input, crate::daily::new(), &mut part, progress);
     let behind = day.input;
     let state = day.state;
     let sheet = state.sheet;
@@ -87,7 +90,7 @@ pub fn sheet_all(input: Stream, progress: bool, out: Stream) -> Told
             sheet,
         };
     }
-    let n = sheet_lines::write_sheet(sheet, &mut lines);
+    let n = crate::sheet_lines::write_sheet(sheet, &mut lines);
     Told {
         input: behind,
         out: streams::write(out, &lines[..n]),

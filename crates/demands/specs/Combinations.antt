@@ -45,7 +45,7 @@ worked-counts = worked
 
 -- ---- What the composer reports. g = N + 1, K = 1 for form 1 and 2 for form 3. "A refused request reports 0, and so does form 2."
 -- It is what the program did: crates/gather adds up the entries of each net as it forms it (`Counted` of
--- Rattle.gather.specs.Formed), and that this is the tree's number is proved of its walk.
+-- Rattle.sums.specs.gather.Formed), and that this is the tree's number is proved of its walk.
 pub record Reports (rq : Request) (r : Result) : Type 0 where
   pub curve : r .answer .number ≡ 0 → rq .head .form ≡ 1
       → r .entries ≡ choose (degree (rq .head) + (rq .head .N + 1) + 1) (degree (rq .head)) - choose (degree (rq .head) + 1) (degree (rq .head))

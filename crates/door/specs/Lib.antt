@@ -2,3 +2,4 @@
 pub mod Contract
 pub mod Given
 pub mod Examples
+pub mod tally

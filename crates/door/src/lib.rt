@@ -1,5 +1,7 @@
 // The door for the drive's firmware: one request slice, one lent reply slice. How a record is opened and judged is crate
 // judgement's, how a reply is written crate replies'; of the composer only its promise is known here.
+pub mod tally;
+
 ghost use mathlib.Core.Path.{_≡_};
 ghost use Prim.Native.Nat.{_+_, _*_, _≤_, _<_};
 ghost use lib.ListN.{length, set};

@@ -7,6 +7,7 @@ ghost use Rattle.pairs.specs.Cut.{longestRecord};
 ghost use Rattle.feed.specs.Feed.{capped};
 ghost use Rattle.page.specs.Page.{Puts};
 ghost use Rattle.entries.specs.Ending.{noLength, cutOff, wholeTrace, secondEnding, endingLine};
+use crate::entry::put_at_byte;
 use page::put;
 use page::put_natural;
 
@@ -14,7 +15,7 @@ fn put_length(size: u64, offset: u64, page: &mut [u8]) -> usize
     ensures { λ r. ⌜ Puts (now (page .entry)) 0 (noLength size offset) (now (page .exit)) r ⌝ }
 {
     let a = put_natural(b"length ", size, page, 0);
-    let b = put_natural(b" at byte ", offset, page, a);
+    let b = put_at_byte(offset, page, a);
     put(b"\n", page, b)
 }
 

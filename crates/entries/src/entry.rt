@@ -2,7 +2,8 @@
 ghost use mathlib.Core.Path.{_≡_};
 ghost use lib.Dec.{eqb};
 ghost use lib.ListN.{getD};
-ghost use Rattle.page.specs.Page.{Puts};
+ghost use Rattle.page.specs.Page.{Puts, counted};
+ghost use Rattle.entries.specs.Text.{atByte};
 ghost use Rattle.entries.specs.Entry.{titleOf, askedOf, firstDifference, changeOf, kindChange, pointChange, behindChange, whatDiffers, entryLine};
 use page::put;
 use page::put_hex;
@@ -12,12 +13,19 @@ use wire::byte_at;
 use wire::number_at;
 use wire::word_at;
 
+// ` at byte M`: where a pair or a record begins.
+pub fn put_at_byte(offset: u64, page: &mut [u8], at: usize) -> usize
+    ensures { λ r. ⌜ Puts (now (page .entry)) at (counted atByte offset) (now (page .exit)) r ⌝ }
+{
+    put_natural(b" at byte ", offset, page, at)
+}
+
 // `pair N at byte M`.
 pub fn put_title(number: u64, offset: u64, page: &mut [u8], at: usize) -> usize
     ensures { λ r. ⌜ Puts (now (page .entry)) at (titleOf number offset) (now (page .exit)) r ⌝ }
 {
     let a = put_natural(b"pair ", number, page, at);
-    put_natural(b" at byte ", offset, page, a)
+    put_at_byte(offset, page, a)
 }
 
 fn put_asked(request: &[u8], page: &mut [u8], at: usize) -> usize

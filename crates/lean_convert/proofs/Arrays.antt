@@ -3,10 +3,10 @@ use mathlib.Core.Path.{_≡_, ap, _∙_}
 use mathlib.Core.Bool.{Bool, cond}
 use mathlib.Core.List.{List, [], _∷_}
 use Prim.Native.Nat.{ℕ}
-use Rattle.converter.specs.declared.Converter.{Converter}
-use Rattle.converter.specs.declared.Taken.{Taken}
+use Rattle.renewal.specs.declared.converter.Converter.{Converter}
+use Rattle.renewal.specs.declared.converter.Taken.{Taken}
 use Rattle.aging.specs.Convert.{endsLong}
-use Rattle.converter.specs.Put.{feedOf, Fills}
+use Rattle.renewal.specs.converter.Put.{feedOf, Fills}
 use Rattle.lean_convert.specs.Converts.{wordsOf, Holds}
 
 pub words-are : (converter : Converter) (taken count flag : ℕ) (refused : Bool) → refused ≡ endsLong (feedOf converter .kept)

@@ -1,5 +1,5 @@
 -- The contract of `lean_convert` fixes every place of the three arrays: any two results that it allows are equal. (That of
--- `lean_convert_end` does by crate converter's `told-determined`.) Assumes nothing.
+-- `lean_convert_end` does by room converter's `told-determined`.) Assumes nothing.
 use mathlib.Core.List.{List}
 use Prim.Native.Nat.{ℕ}
 use Rattle.whole.proofs.Determined.{Determined}

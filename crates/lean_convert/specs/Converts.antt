@@ -5,9 +5,9 @@ use mathlib.Core.List.{List, [], _∷_}
 use Prim.Native.Nat.{ℕ}
 use lib.ListN.{length, getD}
 use lib.Seq.{sets}
-use Rattle.converter.specs.declared.Converter.{Converter}
+use Rattle.renewal.specs.declared.converter.Converter.{Converter}
 use Rattle.aging.specs.Convert.{endsLong}
-use Rattle.converter.specs.Put.{feedOf, front, afterPart, putAll}
+use Rattle.renewal.specs.converter.Put.{feedOf, front, afterPart, putAll}
 
 -- what the arrays hold: the first word has the rest, the second how many requests were changed
 unfoldable pub converterIn : List ℕ → List ℕ → Converter

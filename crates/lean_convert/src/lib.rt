@@ -3,10 +3,10 @@
 ghost use mathlib.Core.Path.{_≡_};
 ghost use mathlib.Core.Bool.{cond};
 ghost use Rattle.feed.specs.Feed.{heldRoom};
-ghost use Rattle.converter.specs.Put.{feedOf, lastOut};
+ghost use Rattle.renewal.specs.converter.Put.{feedOf, lastOut};
 ghost use Rattle.spell.specs.Decimal.{Told};
 ghost use Rattle.lean_convert.specs.Converts.{converterIn, wordsOf, Converts};
-use converter::Converter;
+use renewal::converter::Converter;
 
 fn converter_in(held: &[u8; 256], words: &[u64; 5]) -> Converter
     ensures { λ r. ⌜ r ≡ converterIn (now (held .entry)) (now (words .entry)) ⌝ }
@@ -33,7 +33,7 @@ fn put_words(words: &mut [u64; 5], converter: Converter, taken: u64, count: u64)
 {
     let rest = converter.rest;
     let changed = converter.changed;
-    let refused = flag(converter::refused(converter));
+    let refused = flag(renewal::converter::refused(converter));
     let all = [rest, changed, taken, count, refused];
     *words = all;
 }
@@ -52,7 +52,7 @@ pub extern "C" fn lean_convert(
     ensures { λ _. ⌜ Converts (now (held .entry)) (now (words .entry)) (now (part .entry)) (now (out .entry))
         (now (held .exit)) (now (words .exit)) (now (out .exit)) ⌝ }
 {
-    let taken = converter::take(converter_in(held, words), part, out);
+    let taken = renewal::converter::take(converter_in(held, words), part, out);
     let after = taken.converter;
     let bytes = after.held;
     *held = bytes;
@@ -66,5 +66,5 @@ pub extern "C" fn lean_convert_end(held: &[u8; 256], words: &[u64; 5], out: &mut
     ensures { λ r. ⌜ Told heldRoom (lastOut (feedOf (converterIn (now (held .entry)) (now (words .entry)))))
         (now (out .entry)) r (now (out .exit)) ⌝ }
 {
-    converter::last(converter_in(held, words), out)
+    renewal::converter::last(converter_in(held, words), out)
 }

@@ -6,7 +6,7 @@ use Prim.Native.Nat.{ℕ, _≤_, _<_}
 use lib.ListN.{length, set}
 use borrow.Author.Tests.{lt-ltb, le-ltb}
 use Rattle.fives.specs.declared.Five.{Five}
-use Rattle.tally.specs.Read.{replayed}
+use Rattle.door.specs.tally.Read.{replayed}
 use Rattle.lean_replay.specs.Replayed.{withFive, Replayed}
 
 module _ (bytes words : List ℕ) where

@@ -6,7 +6,7 @@ use Prim.Native.Nat.{ℕ}
 use lib.Dec.{ltb}
 use lib.ListN.{length, set}
 use Rattle.fives.specs.declared.Five.{Five}
-use Rattle.tally.specs.Read.{replayed}
+use Rattle.door.specs.tally.Read.{replayed}
 
 -- the five numbers, and every later word as it was
 unfoldable pub withFive : Five → List ℕ → List ℕ

@@ -11,7 +11,7 @@ pub extern "C" fn lean_replay(bytes: &[u8], words: &mut [u64]) -> u32
     if words.len() < 5 {
         return 1;
     }
-    let five = tally::replay(bytes);
+    let five = door::tally::replay(bytes);
     put(words, 0, five.calls);
     put(words, 1, five.same);
     put(words, 2, five.differ);

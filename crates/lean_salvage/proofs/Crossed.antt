@@ -6,8 +6,8 @@ use Prim.Native.Nat.{ℕ, _≤_, _<_}
 use lib.Dec.{eqb}
 use lib.ListN.{length, getD}
 use borrow.Author.Tests.{lt-ltb, le-ltb}
-use Rattle.saver.specs.declared.Stretch.{Stretch}
-use Rattle.saver.specs.Ahead.{lineRoom, stretchOf, Leaves}
+use Rattle.salvaging.specs.declared.saver.Stretch.{Stretch}
+use Rattle.salvaging.specs.saver.Ahead.{lineRoom, stretchOf, Leaves}
 use Rattle.lean_salvage.specs.Salvaged.{placeIn, withStretch, cramped, Salvaged}
 
 module _ (window : List ℕ) (last : ℕ) (words line : List ℕ) where

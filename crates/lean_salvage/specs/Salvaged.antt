@@ -5,9 +5,9 @@ use mathlib.Core.List.{List}
 use Prim.Native.Nat.{ℕ}
 use lib.Dec.{ltb, eqb}
 use lib.ListN.{length, getD, set}
-use Rattle.saver.specs.declared.Place.{Place}
-use Rattle.saver.specs.declared.Stretch.{Stretch}
-use Rattle.saver.specs.Ahead.{lineRoom, stretchOf}
+use Rattle.salvaging.specs.declared.saver.Place.{Place}
+use Rattle.salvaging.specs.declared.saver.Stretch.{Stretch}
+use Rattle.salvaging.specs.saver.Ahead.{lineRoom, stretchOf}
 
 -- the place that the first two words are
 unfoldable pub placeIn : List ℕ → Place

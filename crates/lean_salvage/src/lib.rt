@@ -2,8 +2,8 @@
 ghost use mathlib.Core.Path.{_≡_};
 ghost use Rattle.lean_salvage.specs.Salvaged.{withStretch, Salvaged};
 use crossing::put;
-use saver::Place;
-use saver::Stretch;
+use salvaging::saver::Place;
+use salvaging::saver::Stretch;
 
 // Writes the five numbers of what lies ahead, each where it has a place.
 fn put_stretch(words: &mut [u64], next: Stretch)
@@ -34,6 +34,9 @@ pub extern "C" fn lean_salvage(window: &[u8], last: u32, words: &mut [u64], line
     let from = words[0];
     let lost = words[1];
     let place = Place { from, lost };
-    put_stretch(words, saver::ahead(window, last != 0, place, line));
+    put_stretch(
+        words,
+        salvaging::saver::ahead(window, last != 0, place, line),
+    );
     0
 }

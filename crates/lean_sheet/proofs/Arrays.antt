@@ -5,7 +5,7 @@ use mathlib.Core.List.{List, [], _∷_}
 use Prim.Native.Nat.{ℕ}
 use lib.IntN.{ℤ}
 use Rattle.sheets.specs.declared.Span.{Span}
-use Rattle.daily.specs.declared.State.{State}
+use Rattle.day.specs.declared.daily.State.{State}
 use Rattle.lean_sheet.specs.Fed.{countsOf, spanOf, Holds}
 
 pub counts-are : (rest odd flag : ℕ) (some : Bool) → flag ≡ cond some 1 0 → rest ∷ odd ∷ flag ∷ [] ≡ countsOf rest odd some

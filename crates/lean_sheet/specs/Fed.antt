@@ -7,8 +7,8 @@ use lib.Dec.{eqb}
 use lib.IntN.{ℤ, pos}
 use lib.ListN.{getD}
 use Rattle.sheets.specs.declared.Span.{Span}
-use Rattle.daily.specs.declared.State.{State}
-use Rattle.daily.specs.Read.{afterPart}
+use Rattle.day.specs.declared.daily.State.{State}
+use Rattle.day.specs.daily.Read.{afterPart}
 
 -- what the arrays hold: `counts` has the rest, `odd`, and another number than 0 where there was a point
 unfoldable pub spanIn : List ℕ → List ℤ → Span

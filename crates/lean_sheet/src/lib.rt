@@ -3,7 +3,7 @@
 ghost use mathlib.Core.Path.{_≡_};
 ghost use mathlib.Core.Bool.{cond};
 ghost use Rattle.lean_sheet.specs.Fed.{spanIn, stateIn, countsOf, spanOf, Fed};
-use daily::State;
+use day::daily::State;
 use sheets::Sheet;
 use sheets::Span;
 
@@ -72,7 +72,7 @@ pub extern "C" fn lean_sheet(
     ensures { λ _. ⌜ Fed (now (held .entry)) (now (counts .entry)) (now (refusals .entry)) (now (span .entry)) (now (part .entry))
         (now (held .exit)) (now (counts .exit)) (now (refusals .exit)) (now (span .exit)) ⌝ }
 {
-    let state = daily::take(state_in(held, counts, refusals, span), part);
+    let state = day::daily::take(state_in(held, counts, refusals, span), part);
     let sheet = state.sheet;
     let after = sheet.span;
     let bytes = state.held;

@@ -1,26 +1,72 @@
 -- Laws of an answer line with its refusal by name. Assumes nothing.
-use mathlib.Core.Path.{_≡_, refl}
-use mathlib.Core.List.{List, [], _∷_}
-use Prim.Native.Nat.{ℕ, _+_, _*_, _-_, _≤_, _<_}
+use mathlib.Core.Path.{_≡_, refl, ap, _∙_}
+use mathlib.Core.List.{List, [], _∷_, _++_, map, append-assoc}
+use Prim.Native.Nat.{ℕ, zero, suc, _+_, _*_, _-_, _≤_, _<_}
 use native.Mathlib.Omega.{arith}
-use lib.ListN.{length, getD, take, drop, length-drop, drop-of-length-le, List·getD-eq-default}
-use lib.Seq.{take-all, take-nil}
+use lib.Dec.{lit≤}
+use lib.ListN.{length, getD, take, drop, replicate, length-append, length-replicate, length-drop, drop-of-length-le, List·getD-eq-default, List·getD-map}
+use lib.Seq.{take-all, take-nil, take-append-seam, drop-append-add}
 use borrow.Author.Tests.{eq-eqb, ne-eqb}
 use Rattle.spell.specs.Decimal.{Front, Written}
 use Rattle.spell.proofs.Writing.{front-read, written-front, written-none, written-then, written-within}
 use Rattle.names.specs.Names.{nameTable, nameOf, firstWidth, firstNumber, byName}
 
--- a name, and no name
-pub named-by : (n k m : ℕ) (out : List ℕ) (at : ℕ) (bytes out′ : List ℕ) (r : ℕ) → Written m out at bytes out′ r
-    → n ≡ k → nameOf k ≡ bytes → m ≤ 9 → Written 9 out at (nameOf n) out′ r
-named-by n k m out at bytes out′ r w e f l = rw (e, f) (written-within m out at bytes out′ r w 9 l)
+-- the names one after the other, each in nine bytes, blanks behind it
+abbrev fields : List (List ℕ) → List ℕ
+fields [] = []
+fields (name ∷ rest) = (name ++ replicate (9 - length name) 32) ++ fields rest
+
+-- each has room there
+abbrev Narrow : List (List ℕ) → Type 0
+Narrow [] = Unit {0}
+Narrow (name ∷ rest) = (length name ≤ 9) × Narrow rest
+
+narrow : Narrow nameTable
+narrow =
+    (lit≤ tt, (lit≤ tt, (lit≤ tt, (lit≤ tt, (lit≤ tt, (lit≤ tt, (lit≤ tt, (lit≤ tt, (lit≤ tt, (lit≤ tt, (lit≤ tt, (lit≤ tt, tt))))))))))))
+
+narrow-at : (table : List (List ℕ)) → Narrow table → (n : ℕ) → length (getD table n []) ≤ 9
+narrow-at [] s n = omega arith
+narrow-at (name ∷ rest) s zero = s .0
+narrow-at (name ∷ rest) s (suc n) = narrow-at rest (s .1) n
+
+-- and stands there
+field-at : (table : List (List ℕ)) → Narrow table → (n : ℕ) → take (length (getD table n [])) (drop (9 * n) (fields table)) ≡ getD table n []
+field-at [] s n = refl
+field-at (name ∷ rest) s zero =
+    ap (take (length name)) (append-assoc name _ (fields rest)) ∙ take-append-seam name _
+field-at (name ∷ rest) s (suc n) =
+    let first = name ++ replicate (9 - length name) 32 in
+    let nine : length first ≡ 9 = simp (length-append, length-replicate) (omega (arith, s .0)) in
+    let step : 9 * suc n ≡ length first + 9 * n = omega (arith, nine) in
+    let behind : drop (9 * suc n) (first ++ fields rest) ≡ drop (9 * n) (fields rest) =
+    ap (λ k. drop k (first ++ fields rest)) step ∙ drop-append-add first (fields rest) (9 * n) in
+    ap (take (length (getD rest n []))) behind ∙ field-at rest (s .1) n
+
+pub widths-small : (n : ℕ) → getD (map length nameTable) n 0 ≤ 9
+widths-small n = rw (List·getD-map length nameTable n []) (narrow-at nameTable narrow n)
+
+-- what is cut out for a number: its name
+abbrev cut : ℕ → List ℕ
+cut n = take (9 * n + getD (map length nameTable) n 0 - 9 * n) (drop (9 * n) (fields nameTable))
+
+cut-is : (n : ℕ) → cut n ≡ nameOf n
+unfolding nameOf
+cut-is n =
+    let wide : 9 * n + getD (map length nameTable) n 0 - 9 * n ≡ length (getD nameTable n []) = omega (arith, List·getD-map length nameTable n []) in
+    ap (λ k. take k (drop (9 * n) (fields nameTable))) wide ∙ field-at nameTable narrow n
+
+cut-small : (n : ℕ) → length (cut n) ≤ 9
+unfolding nameOf
+cut-small n = rw (cut-is n) (narrow-at nameTable narrow n)
+
+-- it was written, or there is none
+pub named-by : (n : ℕ) (out : List ℕ) (at : ℕ) (out′ : List ℕ) (r : ℕ) → Written (length (cut n)) out at (cut n) out′ r
+    → Written 9 out at (nameOf n) out′ r
+named-by n out at out′ r w = rw (← cut-is n) (written-within _ out at (cut n) out′ r w 9 (cut-small n))
 
 pub nameless : (n : ℕ) (out : List ℕ) (at : ℕ) → nameOf n ≡ [] → Written 9 out at (nameOf n) out at
 nameless n out at e = rw e (written-within 0 out at [] out at (written-none 0 out at [] out at) 9 (omega arith))
-
-pub no-name : (n : ℕ) → n ≡ 0 → nameOf n ≡ []
-unfolding nameOf
-no-name n e = rw e
 
 pub past-names : (n : ℕ) → 11 < n → nameOf n ≡ []
 unfolding nameOf

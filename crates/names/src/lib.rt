@@ -6,72 +6,20 @@ ghost use Rattle.spell.specs.Decimal.{Written};
 ghost use Rattle.names.specs.Names.{nameOf, firstWidth, firstNumber, byName};
 use spell::write_bytes;
 
-// 1 to 4; 0 has no name.
-fn write_first(n: u64, out: &mut [u8], at: usize) -> usize
-    requires { ⌜ (n < 5) × (at + 9 ≤ length (now out)) ⌝ }
-    ensures { λ r. ⌜ Written 9 (now (out .entry)) at (nameOf n) (now (out .exit)) r ⌝ }
-{
-    if n < 1 {
-        return at;
-    }
-    if n < 2 {
-        return write_bytes(b"KIND", out, at);
-    }
-    if n < 3 {
-        return write_bytes(b"DEGREE", out, at);
-    }
-    if n < 4 {
-        return write_bytes(b"SURFACE", out, at);
-    }
-    write_bytes(b"PATH", out, at)
-}
-
-// 5 to 8.
-fn write_second(n: u64, out: &mut [u8], at: usize) -> usize
-    requires { ⌜ (4 < n) × (n < 9) × (at + 9 ≤ length (now out)) ⌝ }
-    ensures { λ r. ⌜ Written 9 (now (out .entry)) at (nameOf n) (now (out .exit)) r ⌝ }
-{
-    if n < 6 {
-        return write_bytes(b"ROOM", out, at);
-    }
-    if n < 7 {
-        return write_bytes(b"VALUE", out, at);
-    }
-    if n < 8 {
-        return write_bytes(b"PARAMETER", out, at);
-    }
-    write_bytes(b"BALANCE", out, at)
-}
-
-// 9 to 11; what is more has no name.
-fn write_third(n: u64, out: &mut [u8], at: usize) -> usize
-    requires { ⌜ (8 < n) × (at + 9 ≤ length (now out)) ⌝ }
-    ensures { λ r. ⌜ Written 9 (now (out .entry)) at (nameOf n) (now (out .exit)) r ⌝ }
-{
-    if n < 10 {
-        return write_bytes(b"FRAME", out, at);
-    }
-    if n < 11 {
-        return write_bytes(b"STALE", out, at);
-    }
-    if n < 12 {
-        return write_bytes(b"MOMENT", out, at);
-    }
-    at
-}
-
-// The name of a refusal; nothing where a number has none.
+// The name of a refusal; nothing where a number has none. The names stand one after the other, each in nine bytes.
 pub fn write_name(n: u64, out: &mut [u8], at: usize) -> usize
     requires { ⌜ at + 9 ≤ length (now out) ⌝ }
     ensures { λ r. ⌜ Written 9 (now (out .entry)) at (nameOf n) (now (out .exit)) r ⌝ }
 {
-    if n < 5 {
-        return write_first(n, out, at);
+    if n >= 12 {
+        return at;
     }
-    if n < 9 {
-        return write_second(n, out, at);
-    }
-    write_third(n, out, at)
+    let widths = [0, 4, 6, 7, 4, 4, 5, 9, 7, 5, 5, 6];
+    let width = widths[n as usize];
+    let names: &[u8] =
+        b"         KIND     DEGREE   SURFACE  PATH     ROOM     VALUE    PARAMETERBALANCE  FRAME    STALE    MOMENT   ";
+    let from = 9 * n as usize;
+    write_bytes(&names[from..from + width], out, at)
 }
 
 // The number that a digit is.

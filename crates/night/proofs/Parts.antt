@@ -7,11 +7,11 @@ use lib.ListN.{length, take}
 use Rattle.spell.proofs.Writing.{told-front}
 use Rattle.feed.specs.Parts.{uncut, afterAll}
 use Rattle.fives.specs.declared.Five.{Five}
-use Rattle.tally.specs.declared.Reader.{Reader}
-use Rattle.tally.specs.Read.{replayed}
-use Rattle.tally.specs.Read.{afterPart, blankReader, fiveIn}
+use Rattle.door.specs.declared.tally.Reader.{Reader}
+use Rattle.door.specs.tally.Read.{replayed}
+use Rattle.door.specs.tally.Read.{afterPart, blankReader, fiveIn}
 use Rattle.fives.specs.Lines.{fiveLines, Told}
-use Rattle.tally.proofs.Promises.{five-of-parts}
+use Rattle.door.proofs.tally.Promises.{five-of-parts}
 use Rattle.streams.specs.declared.Stream.{Stream}
 use Rattle.streams.specs.Stream.{Wrote}
 use Rattle.reading.specs.Parts.{Took}

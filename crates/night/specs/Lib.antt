@@ -1,2 +1,3 @@
 -- What the reading of a night promises. Assumes nothing.
 pub mod Reading
+pub mod listing

@@ -4,7 +4,7 @@ use mathlib.Core.Path.{_≡_}
 use mathlib.Core.Bool.{true, false}
 use mathlib.Core.List.{List}
 use Prim.Native.Nat.{ℕ}
-use Rattle.tally.specs.Read.{replayed}
+use Rattle.door.specs.tally.Read.{replayed}
 use Rattle.fives.specs.Lines.{fiveLines}
 use Rattle.streams.specs.declared.Stream.{Stream}
 use Rattle.streams.specs.Stream.{Through, Wrote}

@@ -1,13 +1,14 @@
 // A night as it comes from an input: its five numbers and their lines. What a file holds is not
 // known here; it is promised that what was written is that of the bytes that were read.
 mod far;
+pub mod listing;
 
+use door::tally::Reader;
 use fives::Five;
 use progress::Progress;
 use streams::Stream;
-use tally::Reader;
 ghost use mathlib.Core.Path.{_≡_};
-ghost use Rattle.tally.specs.Read.{afterPart};
+ghost use Rattle.door.specs.tally.Read.{afterPart};
 ghost use Rattle.reading.specs.Parts.{Took};
 ghost use Rattle.night.specs.Reading.{Replays};
 
@@ -34,7 +35,7 @@ fn read_part(input: Stream, reader: Reader, part: &mut [u8]) -> Night
     let behind = got.stream;
     Night {
         input: behind,
-        reader: tally::take(reader, &part[..n]),
+        reader: door::tally::take(reader, &part[..n]),
         count: n,
     }
 }
@@ -48,7 +49,7 @@ fn tell(progress: Progress, input: Stream, reader: Reader, ended: bool) -> Progr
     let n = far::put_far(
         progress,
         input.count,
-        tally::finish(reader).calls,
+        door::tally::finish(reader).calls,
         ended,
         &mut page,
     );
@@ -88,10 +89,10 @@ pub fn replay_all(input: Stream, progress: Progress, out: Stream) -> Replayed
 {
     let mut part = io::large_buffer();
     let mut lines = [0u8; 134];
-    let blank = tally::new();
+    let blank = door::tally::new();
     let night = read_all(input, blank, &mut part, progress);
     let behind = night.input;
-    let five = tally::finish(night.reader);
+    let five = door::tally::finish(night.reader);
     if behind.failed {
         return Replayed {
             input: behind,

@@ -1,15 +1,17 @@
 -- What is answered: a number of the table, which passes the test of a triangle and so holds the binomial coefficients, and at most the
 -- greatest, by a test of the rows, each made from the one above it. Callers cite the bound for their own sums. Assumes nothing.
 use mathlib.Core.Path.{_≡_, refl, sym, _∙_, ap, ap₂}
-use mathlib.Core.Bool.{Bool, true, false, cond}
+use mathlib.Core.Bool.{Bool, true, false, cond, _||_}
 use mathlib.Core.List.{List, [], _∷_}
 use mathlib.Core.Logic.{_⊎_, inl, inr, ⊎-elim}
-use Prim.Native.Nat.{ℕ, zero, suc, _+_, _≤_, _<_}
-use native.Mathlib.Nat.{zero-add, eq-or-lt-of-le}
+use Prim.Native.Nat.{ℕ, zero, suc, _+_, _-_, _/_, _≤_, _<_}
+use native.Mathlib.Nat.{zero-add}
 use native.Mathlib.Decide.{decLe}
 use native.Mathlib.Omega.{arith}
-use lib.Dec.{T, leb, leb→le}
+use lib.Dec.{T, eqb, leb, leb→le}
 use lib.ListN.{length, getD, List·getD-eq-default}
+use mir.Val.{hasKey}
+use types.Run.{OneOf, hit}
 use borrow.Author.Tests.{le-leb, lt-leb}
 use Rattle.whole.specs.Choose.{choose}
 use Rattle.whole.proofs.Binomial.{choose-above}
@@ -33,6 +35,13 @@ entry-above last n k h = by (leb n last)
     by true = choose-above n k h
     by false = refl
 
+order : (m n : ℕ) → (m ≤ n) ⊎ (n < m)
+order m n = by (decLe m n)
+  where
+    by : Dec (m ≤ n) → (m ≤ n) ⊎ (n < m)
+    by (yes h) = inl h
+    by (no f) = inr (omega arith)
+
 -- ---- the table's numbers, by its test, which is computed here, once
 table-is : (n k : ℕ) → n ≤ lastRow → k ≤ n → cell table n k ≡ choose n k
 table-is = cell-is {t = table} {last = lastRow} (record { left = tt; right = tt; sums = tt })
@@ -46,17 +55,47 @@ told last n k at x b h l e r =
 pub arm : {x k : ℕ} → x ≡ k → getD table k 0 ≡ getD table x 0
 arm e = sym (ap (λ y. getD table y 0) e)
 
--- x is no place below n
-abbrev Apart : ℕ → ℕ → Type 0
-Apart x zero = Unit {0}
-Apart x (suc n) = Apart x n × (x ≡ n → ⊥)
+pub past : (x : ℕ) → length table ≤ x → 0 ≡ getD table x 0
+past x h = sym (List·getD-eq-default table 0 h)
 
-pub apart : (x n : ℕ) → Apart x n → n ≤ x
-apart x zero a = omega arith
-apart x (suc n) a = ⊎-elim (λ (e : n ≡ x). absurd (a .1 (sym e))) (λ (l : n < x). l) (eq-or-lt-of-le (apart x n (a .0)))
+-- ---- the arms of such a `match`, the last first
+-- x is at none of them; and the test that it is at one
+abbrev Missed : ℕ → List (List ℕ) → Type 0
+Missed x [] = Unit {0}
+Missed x (keys ∷ l) = Missed x l × (OneOf keys x → ⊥)
 
-pub past : (x : ℕ) → Apart x (length table) → 0 ≡ getD table x 0
-past x a = sym (List·getD-eq-default table 0 (apart x (length table) a))
+abbrev found : List (List ℕ) → ℕ → Bool
+found [] x = false
+found (keys ∷ l) x = hasKey keys x || found l x
+
+missed : (x : ℕ) (l : List (List ℕ)) → T (found l x) → Missed x l → ⊥
+missed x [] t m = absurd t
+missed x (keys ∷ l) t m = by (hasKey keys x) (λ h. hit keys x h) (λ f. missed x l f (m .0)) t
+  where
+    by : (b : Bool) → (T b → OneOf keys x) → (T (found l x) → ⊥) → T (b || found l x) → ⊥
+    by true h n t = m .1 (h tt)
+    by false h n t = n t
+
+-- a row's, from its ends inward, two neighbours apart; and those of all rows below n
+abbrev ends : ℕ → ℕ → List (List ℕ) → List (List ℕ)
+ends low high l =
+    cond (eqb low high) ((low ∷ []) ∷ l) (cond (eqb (low + 1) high) ((high ∷ []) ∷ (low ∷ []) ∷ l) ((low ∷ high ∷ []) ∷ l))
+
+abbrev inward : ℕ → ℕ → ℕ → List (List ℕ) → List (List ℕ)
+inward zero low high l = l
+inward (suc n) low high l = inward n (low + 1) (high - 1) (ends low high l)
+
+abbrev below : ℕ → List (List ℕ)
+below zero = []
+below (suc n) = inward (n / 2 + 1) (placeOf n 0) (placeOf n n) (below n)
+
+-- a place at none of them is past them all, by a test that each place has one
+pub beyond : (x rows cells : ℕ) → T (each cells (found (below rows))) → Missed x (below rows) → cells ≤ x
+beyond x rows cells t m =
+    ⊎-elim
+    (λ (h : cells ≤ x). h)
+    (λ (l : x < cells). absurd (missed x (below rows) (each-at cells (found (below rows)) t x l) m))
+    (order cells x)
 
 -- ---- the rows
 -- the sums of neighbours in a ∷ r, and then the last number
@@ -85,13 +124,6 @@ row-is (suc n) zero = sums-first 0 (row n) ∙ zero-add _ ∙ row-is n 0
 row-is (suc n) (suc k) = sums-next 0 (row n) k ∙ ap₂ _+_ (row-is n k) (row-is n (suc k))
 
 -- ---- the bound
-order : (m n : ℕ) → (m ≤ n) ⊎ (n < m)
-order m n = by (decLe m n)
-  where
-    by : Dec (m ≤ n) → (m ≤ n) ⊎ (n < m)
-    by (yes h) = inl h
-    by (no f) = inr (omega arith)
-
 -- the test: no number of row n is above b
 abbrev small : ℕ → ℕ → ℕ → Bool
 small b n k = leb (getD (row n) k 0) b

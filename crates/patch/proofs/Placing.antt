@@ -29,8 +29,8 @@ use Rattle.patch_net.proofs.Standing.{Stands, stands-at, stands-all, indices-le
 use Rattle.patch_net.proofs.Half.{some-ways}
 use Rattle.patch_net.proofs.Sizes.{numerator-size}
 use Rattle.patch_net.proofs.Kept.{map-at, after-none}
-use Rattle.patch_sums.specs.Contract.{Summed}
-use Rattle.patch_sums.proofs.Summing.{longest-most}
+use Rattle.patch.specs.patch_sums.Contract.{Summed}
+use Rattle.patch.proofs.patch_sums.Summing.{longest-most}
 use Rattle.patch.specs.Writing.{exactAt, pointAt, Fits, Fitting, Put, Wrote}
 
 -- ---- one place

@@ -10,7 +10,7 @@ use Rattle.patch_net.specs.Patch.{mostDegree, places, Index, indices}
 use Rattle.patch_net.specs.Composed.{multinomial}
 use Rattle.patch_net.specs.Afterwards.{afterwards}
 use Rattle.patch_walk.specs.PatchTerms.{keyOf}
-use Rattle.patch_sums.specs.Contract.{mostLongest, limbCount}
+use Rattle.patch.specs.patch_sums.Contract.{mostLongest, limbCount}
 
 -- the numerator of an index, and the point that it gives over its multinomial times 1024^n
 abbrev pub exactAt : List ℤ → Index → ℤ

@@ -1,5 +1,7 @@
 // Rule Patches on patches (02, ticket 8): the public entry. A patch is judged whole before anything is written; an accepted one has
 // its exact numerators, one signed number each, and its rounded points written to the two lent arrays in 01's triangular order.
+mod patch_sums;
+
 ghost use mathlib.Core.Path.{_≡_};
 ghost use Prim.Native.Nat.{_^_, _≤_, _<_};
 ghost use lib.IntN.{natAbs};
@@ -7,9 +9,9 @@ ghost use lib.ListN.{length, set};
 ghost use Rattle.two_words.specs.Words.{twoWords};
 ghost use Rattle.patch_net.specs.Patch.{patchOf};
 ghost use Rattle.patch_net.specs.Afterwards.{Patched};
-ghost use Rattle.patch_sums.specs.Contract.{indexOf};
+ghost use Rattle.patch.specs.patch_sums.Contract.{indexOf};
 ghost use Rattle.patch.specs.Writing.{Fitting, Fits, Put, Wrote};
-use patch_sums::Place;
+use crate::patch_sums::Place;
 use request::Answer;
 use two_words::Words;
 use units::Travel;
@@ -48,8 +50,8 @@ fn write_place(sums: &[i64], n: usize, at: Place, R: usize, exact: &mut [i64], p
     requires { ⌜ Fits (now sums) n (indexOf at) × (R < length (now exact)) × (R < length (now points)) ⌝ }
     ensures { λ _. ⌜ Put (now (sums .entry)) n (indexOf at) R (now (exact .entry)) (now (points .entry)) (now (exact .exit)) (now (points .exit)) ⌝ }
 {
-    let v = two_words::joined(sums, patch_sums::key(at));
-    let d = patch_sums::multinomial(at);
+    let v = two_words::joined(sums, crate::patch_sums::key(at));
+    let d = crate::patch_sums::multinomial(at);
     put_exact(exact, R, single(v));
     put_point(points, R, units::travel_of(two_words::rounded(v, d, n)));
 }
@@ -63,7 +65,7 @@ fn write_all(sums: &[i64], n: usize, L: usize, count: usize, exact: &mut [i64], 
     let mut R = 0;
     while R < count {
         write_place(sums, n, at, R, exact, points);
-        at = patch_sums::next(at);
+        at = crate::patch_sums::next(at);
         R += 1;
     }
 }
@@ -89,7 +91,7 @@ pub fn patch(
     let outer = n as usize;
     let domain = N as usize;
     let mut sums = [0i64; 182];
-    patch_sums::numerators(outer, domain, surface, path, &mut sums);
+    crate::patch_sums::numerators(outer, domain, surface, path, &mut sums);
     write_all(&sums, outer, outer * domain, answer.count, exact, points);
     answer
 }

@@ -13,11 +13,11 @@ use Rattle.feed.specs.Feed.{capped, heldRoom}
 use Rattle.feed.specs.Parts.{uncut, afterAll}
 use Rattle.streams.specs.declared.Stream.{Stream}
 use Rattle.streams.specs.Stream.{Through, through-none, through-more, Wrote, wrote-none, wrote-more}
-use Rattle.converter.specs.declared.Converter.{Converter}
-use Rattle.converter.specs.declared.Taken.{Taken}
+use Rattle.renewal.specs.declared.converter.Converter.{Converter}
+use Rattle.renewal.specs.declared.converter.Taken.{Taken}
 use Rattle.aging.specs.Convert.{converted, changed, refuses, endsLong}
-use Rattle.converter.specs.Put.{putAll, lastOut, feedOf, begun, afterPart, putParts, partRoom, outRoom, front, Fills}
-use Rattle.converter.proofs.Promises.{parts-converted, parts-refused, parts-changed}
+use Rattle.renewal.specs.converter.Put.{putAll, lastOut, feedOf, begun, afterPart, putParts, partRoom, outRoom, front, Fills}
+use Rattle.renewal.proofs.converter.Promises.{parts-converted, parts-refused, parts-changed}
 use Rattle.renewal.specs.Carried.{Carries, Looks, Renews}
 
 -- ---- parts one after the other

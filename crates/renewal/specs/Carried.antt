@@ -9,9 +9,9 @@ use Rattle.feed.specs.Feed.{capped}
 use Rattle.feed.specs.Parts.{uncut, afterAll}
 use Rattle.streams.specs.declared.Stream.{Stream}
 use Rattle.streams.specs.Stream.{Through, Wrote}
-use Rattle.converter.specs.declared.Converter.{Converter}
+use Rattle.renewal.specs.declared.converter.Converter.{Converter}
 use Rattle.aging.specs.Convert.{converted, changed, refuses}
-use Rattle.converter.specs.Put.{afterPart, putParts}
+use Rattle.renewal.specs.converter.Put.{afterPart, putParts}
 use Rattle.renewal.specs.declared.Looked.{Looked}
 use Rattle.renewal.specs.declared.Renewed.{Renewed}
 

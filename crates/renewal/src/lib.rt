@@ -1,12 +1,14 @@
 // An old night as it comes from an input: looked through, and converted into an output. What a file holds is not known here; it is
 // promised that what was written, and told, is that of the bytes that were read.
-use converter::Converter;
+pub mod converter;
+
+use crate::converter::Converter;
 use progress::Progress;
 use streams::Stream;
 ghost use Prim.Native.Nat.{_≤_};
 ghost use lib.ListN.{length};
 ghost use Rattle.streams.specs.Stream.{Wrote};
-ghost use Rattle.converter.specs.Put.{partRoom, outRoom};
+ghost use Rattle.renewal.specs.converter.Put.{partRoom, outRoom};
 ghost use Rattle.spell.specs.Decimal.{Written};
 ghost use Rattle.renewal.specs.Verdict.{verdict, verdictRoom};
 ghost use Rattle.renewal.specs.Carried.{Carries, Looks, Renews};
@@ -51,7 +53,7 @@ fn carry_part(
     let got = streams::read(input, part);
     let n = got.count;
     let behind = got.stream;
-    let taken = converter::take(converter, &part[..n], buffer);
+    let taken = crate::converter::take(converter, &part[..n], buffer);
     let count = taken.count;
     let next = taken.converter;
     if wanted {
@@ -125,11 +127,11 @@ pub fn look(input: Stream, out: Stream, progress: Progress) -> Looked
     ensures { λ r. ⌜ Looks input out r ⌝ }
 {
     let mut part = io::large_buffer();
-    let mut buffer = [0u8; converter::ROOM];
+    let mut buffer = [0u8; crate::converter::ROOM];
     let night = carry_all(
         input,
         out,
-        converter::new(),
+        crate::converter::new(),
         false,
         progress,
         &mut part,
@@ -141,7 +143,7 @@ pub fn look(input: Stream, out: Stream, progress: Progress) -> Looked
     Looked {
         input: read,
         out: lent,
-        refused: converter::refused(seen),
+        refused: crate::converter::refused(seen),
         changed: seen.changed,
     }
 }
@@ -151,11 +153,11 @@ pub fn renew(input: Stream, out: Stream, progress: Progress) -> Renewed
     ensures { λ r. ⌜ Renews input out r ⌝ }
 {
     let mut part = io::large_buffer();
-    let mut buffer = [0u8; converter::ROOM];
+    let mut buffer = [0u8; crate::converter::ROOM];
     let night = carry_all(
         input,
         out,
-        converter::new(),
+        crate::converter::new(),
         true,
         progress,
         &mut part,
@@ -164,11 +166,11 @@ pub fn renew(input: Stream, out: Stream, progress: Progress) -> Renewed
     let behind = night.input;
     let written = night.out;
     let converter = night.converter;
-    let n = converter::last(converter, &mut buffer);
+    let n = crate::converter::last(converter, &mut buffer);
     Renewed {
         input: behind,
         out: streams::write(written, &buffer[..n]),
-        refused: converter::refused(converter),
+        refused: crate::converter::refused(converter),
         changed: converter.changed,
     }
 }

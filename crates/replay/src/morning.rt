@@ -35,7 +35,7 @@ fn count(from: Stream, name: &[u8], progress: bool) -> u64 {
 
 // The pairs that differ, or one pair in words.
 fn tell(from: Stream, name: &[u8], wanted: u64) -> u64 {
-    let told = listing::list(from, wanted, streams::standard_output());
+    let told = night::listing::list(from, wanted, streams::standard_output());
     let read = told.input;
     let out = told.out;
     if out.failed {

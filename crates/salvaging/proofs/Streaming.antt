@@ -14,9 +14,9 @@ use Rattle.torn.specs.Window.{skipsAhead, keepsAhead, closedLine, lineAfter, fr
 use Rattle.torn.proofs.Going.{stands-none, stands-read, stands-last, stands-next, stands-over, skips-within, keeps-fits, rest-none, rest-small}
 use Rattle.streams.specs.declared.Stream.{Stream}
 use Rattle.streams.specs.Stream.{Through, through-none, through-more, Wrote, wrote-none, wrote-more}
-use Rattle.saver.specs.declared.Place.{Place}
-use Rattle.saver.specs.declared.Stretch.{Stretch}
-use Rattle.saver.specs.Ahead.{lineRoom, stretchOf, Leaves, closing, Closes}
+use Rattle.salvaging.specs.declared.saver.Place.{Place}
+use Rattle.salvaging.specs.declared.saver.Stretch.{Stretch}
+use Rattle.salvaging.specs.saver.Ahead.{lineRoom, stretchOf, Leaves, closing, Closes}
 use Rattle.salvaging.specs.declared.State.{State}
 use Rattle.salvaging.specs.Salvaging.{Puts, Holds, Settles, Rests, Reads, Fills, Salvages}
 use Rattle.salvaging.proofs.Sliding.{middle}

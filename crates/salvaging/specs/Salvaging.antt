@@ -12,7 +12,7 @@ use Rattle.torn.specs.Lines.{cappedLines}
 use Rattle.torn.specs.Window.{Stands}
 use Rattle.streams.specs.declared.Stream.{Stream}
 use Rattle.streams.specs.Stream.{Through, Wrote}
-use Rattle.saver.specs.declared.Place.{Place}
+use Rattle.salvaging.specs.declared.saver.Place.{Place}
 use Rattle.salvaging.specs.declared.State.{State}
 use Rattle.salvaging.specs.declared.Turn.{Turn}
 use Rattle.salvaging.specs.declared.Salvaged.{Salvaged}

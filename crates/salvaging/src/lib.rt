@@ -1,16 +1,18 @@
 // Salvaging a torn trace from an input to two outputs, the kept pairs and the lines: a window slides over the input, 64 KiB at a time,
-// and what lies ahead in it (crate saver) is written out as it comes. What a file holds is not known here; it is promised that
+// and what lies ahead in it (room saver) is written out as it comes. What a file holds is not known here; it is promised that
 // what was written is the salvage of what was read.
+pub mod saver;
+
 ghost use mathlib.Core.Path.{_≡_};
 ghost use mathlib.Core.Bool.{_||_};
 ghost use mathlib.Core.List.{[]};
 ghost use Prim.Native.Nat.{_+_, _-_, _≤_};
 ghost use lib.ListN.{length, take, drop};
 ghost use Rattle.torn.specs.Window.{closedLine};
-ghost use Rattle.saver.specs.Ahead.{lineRoom};
+ghost use Rattle.salvaging.specs.saver.Ahead.{lineRoom};
 ghost use Rattle.salvaging.specs.Salvaging.{Puts, Settles, Rests, Fills, Salvages};
+use crate::saver::Place;
 use progress::Progress;
-use saver::Place;
 use streams::Stream;
 
 // Where the salvage stands, and its two outputs.
@@ -45,7 +47,7 @@ fn step(window: &[u8], last: bool, line: &mut [u8], state: State) -> Settled
     ensures { λ r. ⌜ Settles last (now (window .entry)) state (r .taken) (r .state) × (r .taken ≡ 0 → Rests last (now (window .entry))) ⌝ }
 {
     let place = state.place;
-    let next = saver::ahead(window, last, place, line);
+    let next = crate::saver::ahead(window, last, place, line);
     let from = next.skipped;
     let end = from + next.kept;
     let size = next.line;
@@ -218,7 +220,7 @@ fn finish(state: State, line: &mut [u8]) -> State
     ensures { λ r. ⌜ Puts (state .place) (closedLine (state .place .from) (state .place .lost)) [] state r ⌝ }
 {
     let place = state.place;
-    let n = saver::close(place, line);
+    let n = crate::saver::close(place, line);
     put(place, &line[..n], b"", state)
 }
 

@@ -8,10 +8,10 @@ use lib.ListN.{length, getD}
 use Rattle.request.specs.Refusal.{valuePlace}
 use Rattle.request.proofs.Bounds.{travels}
 use Rattle.net.specs.Net.{rowStart}
-use Rattle.steps.specs.Layout.{boxed, before, spot, held, diagonal, rowOf, columnOf}
-use Rattle.steps.proofs.Fronts.{front, in-front, front-small}
-use Rattle.steps.proofs.Triangles.{spot-low, row-of, column-of}
-use Rattle.gather.proofs.Boxes.{Boxed}
+use Rattle.sums.specs.steps.Layout.{boxed, before, spot, held, diagonal, rowOf, columnOf}
+use Rattle.sums.proofs.steps.Fronts.{front, in-front, front-small}
+use Rattle.sums.proofs.steps.Triangles.{spot-low, row-of, column-of}
+use Rattle.sums.proofs.gather.Boxes.{Boxed}
 use Rattle.sums.specs.Loaded.{stacked, loadedAt, LoadedBox, LoadedTriangle}
 
 -- ---- a rectangle

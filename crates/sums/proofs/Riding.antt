@@ -36,14 +36,14 @@ use Rattle.runs.proofs.Walk.{walk-zero}
 use Rattle.runs.proofs.Ride.{curve-walk, tensor-walk, triangle-walk}
 use Rattle.runs.proofs.Budget.{budget-is, path-weights}
 use Rattle.runs.proofs.Tree.{formed-entries}
-use Rattle.steps.specs.Layout.{boxed}
-use Rattle.gather.specs.Table.{keyAt, weightAt, shareAt, argumentOf, termOf, termsOf, Good, Inside, Even}
-use Rattle.gather.specs.Owed.{owed, due, ofGroup, restAt, owing, duty, Ready}
-use Rattle.gather.specs.Formed.{Counted}
-use Rattle.gather.proofs.Turn.{due-budget, due-some, length-terms, term-at, term-weight, only-leaf}
-use Rattle.gather.proofs.Grouped.{first-group, first-of, first-read, first-rest, later-group, later-of, later-read, later-rest, of-most}
-use Rattle.gather.proofs.Boxes.{box-reads}
-use Rattle.gather.proofs.Triangles.{all-of, triangle-reads}
+use Rattle.sums.specs.steps.Layout.{boxed}
+use Rattle.sums.specs.gather.Table.{keyAt, weightAt, shareAt, argumentOf, termOf, termsOf, Good, Inside, Even}
+use Rattle.sums.specs.gather.Owed.{owed, due, ofGroup, restAt, owing, duty, Ready}
+use Rattle.sums.specs.gather.Formed.{Counted}
+use Rattle.sums.proofs.gather.Turn.{due-budget, due-some, length-terms, term-at, term-weight, only-leaf}
+use Rattle.sums.proofs.gather.Grouped.{first-group, first-of, first-read, first-rest, later-group, later-of, later-read, later-rest, of-most}
+use Rattle.sums.proofs.gather.Boxes.{box-reads}
+use Rattle.sums.proofs.gather.Triangles.{all-of, triangle-reads}
 use Rattle.sums.specs.Filled.{PointAt, Filled}
 use Rattle.sums.specs.Loaded.{stacked}
 use Rattle.sums.specs.Contract.{Summed, Formed}

@@ -9,15 +9,15 @@ use Rattle.limbs.specs.Limbs.{Gained}
 use Rattle.limbs.proofs.Toward.{gained-as}
 use Rattle.request.specs.Refusal.{valuePlace}
 use Rattle.request.proofs.Bounds.{travels}
-use Rattle.steps.specs.Layout.{boxed, held}
-use Rattle.steps.specs.Stepped.{Small, entryMost}
-use Rattle.steps.proofs.Fronts.{front, in-front, front-small}
-use Rattle.steps.proofs.Rising.{entry-least}
-use Rattle.gather.specs.Owed.{ofGroup, owing, duty, Ready}
-use Rattle.gather.specs.Formed.{Counted}
-use Rattle.gather.proofs.Gathering.{one-of}
-use Rattle.gather.proofs.Boxes.{box-reads}
-use Rattle.gather.proofs.Triangles.{triangle-reads}
+use Rattle.sums.specs.steps.Layout.{boxed, held}
+use Rattle.sums.specs.steps.Stepped.{Small, entryMost}
+use Rattle.sums.proofs.steps.Fronts.{front, in-front, front-small}
+use Rattle.sums.proofs.steps.Rising.{entry-least}
+use Rattle.sums.specs.gather.Owed.{ofGroup, owing, duty, Ready}
+use Rattle.sums.specs.gather.Formed.{Counted}
+use Rattle.sums.proofs.gather.Gathering.{one-of}
+use Rattle.sums.proofs.gather.Boxes.{box-reads}
+use Rattle.sums.proofs.gather.Triangles.{triangle-reads}
 use Rattle.sums.specs.Loaded.{stacked, LoadedBox, LoadedTriangle}
 use Rattle.sums.proofs.Loading.{box-net, two-net, three-net}
 

@@ -13,10 +13,11 @@ use Rattle.runs.specs.Walk.{walk}
 use Rattle.runs.specs.Ride.{leaf}
 use Rattle.runs.specs.Budget.{weights}
 use Rattle.runs.proofs.Budget.{budget-is}
-use Rattle.gather.specs.Table.{termsOf, Good}
-use Rattle.gather.specs.Owed.{ofGroup, restAt, owing, duty, Ready}
-use Rattle.gather.proofs.Grouped.{first-rest}
-use Rattle.gather.proofs.Triangles.{all-of}
+use Rattle.sums.specs.gather.Table.{termsOf, Good}
+use Rattle.sums.specs.gather.Owed.{ofGroup, restAt, owing, duty, Ready}
+pub use Rattle.sums.proofs.gather.Turn.{only-leaf}
+use Rattle.sums.proofs.gather.Grouped.{first-rest}
+use Rattle.sums.proofs.gather.Triangles.{all-of}
 use Rattle.sums.proofs.Riding.{owing-single, duty-is}
 
 module _ (t : List ℕ) (count r : ℕ) (some : 0 < r) where

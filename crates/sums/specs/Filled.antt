@@ -6,7 +6,7 @@ use lib.IntN.{ℤ, pos}
 use Rattle.whole.specs.Choose.{choose}
 use Rattle.request.specs.declared.Head.{Head}
 use Rattle.net.specs.Net.{numberAt}
-use Rattle.gather.specs.Table.{keyAt, weightAt, shareAt}
+use Rattle.sums.specs.gather.Table.{keyAt, weightAt, shareAt}
 
 -- the four numbers of a term
 abbrev pub termNumbers : ℕ → ℕ → ℕ → ℕ → List ℕ

@@ -2,3 +2,5 @@
 pub mod Filled
 pub mod Loaded
 pub mod Contract
+pub mod steps
+pub mod gather

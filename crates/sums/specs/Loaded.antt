@@ -5,8 +5,8 @@ use Prim.Native.Nat.{ℕ, _+_, _≤_, _<_}
 use lib.IntN.{ℤ, pos}
 use lib.ListN.{getD}
 use Rattle.net.specs.Net.{Net, rowStart}
-use Rattle.steps.specs.Layout.{held, rowOf, columnOf}
-use Rattle.steps.specs.Stepped.{Small}
+use Rattle.sums.specs.steps.Layout.{held, rowOf, columnOf}
+use Rattle.sums.specs.steps.Stepped.{Small}
 
 -- form 3: a list of control values read as a net of degree n
 unfoldable pub stacked : ℕ → List ℤ → Net

@@ -1,5 +1,8 @@
-// A composed net, summed: a ride's terms are put into a table once, its surface is loaded, and crate `gather` sums over the
+// A composed net, summed: a ride's terms are put into a table once, its surface is loaded, and room `gather` sums over the
 // non-decreasing runs of the terms, into places of two limbs.
+mod gather;
+mod steps;
+
 ghost use mathlib.Core.Path.{_≡_};
 ghost use mathlib.Core.Bool.{cond, false, _||_};
 ghost use mathlib.Core.List.{[], _∷_};
@@ -12,16 +15,16 @@ ghost use Rattle.limbs.specs.Limbs.{Gained};
 ghost use Rattle.request.specs.Head.{numbers};
 ghost use Rattle.request.specs.Refusal.{notDegree, valuePlace};
 ghost use Rattle.net.specs.Sizes.{GoodPath, Composable};
-ghost use Rattle.steps.specs.Layout.{boxed};
-ghost use Rattle.gather.specs.Table.{Inside, Even};
-ghost use Rattle.gather.specs.Owed.{ofGroup, owing, duty, Ready};
-ghost use Rattle.gather.specs.Formed.{Counted};
+ghost use Rattle.sums.specs.steps.Layout.{boxed};
+ghost use Rattle.sums.specs.gather.Table.{Inside, Even};
+ghost use Rattle.sums.specs.gather.Owed.{ofGroup, owing, duty, Ready};
+ghost use Rattle.sums.specs.gather.Formed.{Counted};
 ghost use Rattle.sums.specs.Filled.{termNumbers, Filled};
 ghost use Rattle.sums.specs.Loaded.{stacked, LoadedBox, LoadedTriangle};
 ghost use Rattle.sums.specs.Contract.{places, Summed, Formed};
+use crate::steps::Three;
+use crate::steps::Two;
 use request::Head;
-use steps::Three;
-use steps::Two;
 use whole::Num;
 
 // ---- the table of a ride
@@ -101,15 +104,15 @@ fn load_box(surface: &[i32]) -> [i64; 15]
     ensures { λ n. ⌜ LoadedBox (now (surface .entry)) n ⌝ }
 {
     let mut net = [0i64; 15];
-    steps::put(&mut net, 0, travel(surface, 0));
-    steps::put(&mut net, 1, travel(surface, 1));
-    steps::put(&mut net, 2, travel(surface, 2));
-    steps::put(&mut net, 3, travel(surface, 3));
-    steps::put(&mut net, 4, travel(surface, 4));
-    steps::put(&mut net, 5, travel(surface, 5));
-    steps::put(&mut net, 6, travel(surface, 6));
-    steps::put(&mut net, 7, travel(surface, 7));
-    steps::put(&mut net, 8, travel(surface, 8));
+    crate::steps::put(&mut net, 0, travel(surface, 0));
+    crate::steps::put(&mut net, 1, travel(surface, 1));
+    crate::steps::put(&mut net, 2, travel(surface, 2));
+    crate::steps::put(&mut net, 3, travel(surface, 3));
+    crate::steps::put(&mut net, 4, travel(surface, 4));
+    crate::steps::put(&mut net, 5, travel(surface, 5));
+    crate::steps::put(&mut net, 6, travel(surface, 6));
+    crate::steps::put(&mut net, 7, travel(surface, 7));
+    crate::steps::put(&mut net, 8, travel(surface, 8));
     net
 }
 
@@ -121,28 +124,28 @@ fn load_tri(surface: &[i32], n: usize) -> [i64; 15]
     let one = n + 1;
     let two = one + n;
     let mut net = [0i64; 15];
-    steps::put(&mut net, 0, travel(surface, 0));
-    steps::put(&mut net, 1, travel(surface, 1));
-    steps::put(&mut net, 2, travel(surface, one));
-    steps::put(&mut net, 3, travel(surface, 2));
-    steps::put(&mut net, 4, travel(surface, one + 1));
-    steps::put(&mut net, 5, travel(surface, two));
+    crate::steps::put(&mut net, 0, travel(surface, 0));
+    crate::steps::put(&mut net, 1, travel(surface, 1));
+    crate::steps::put(&mut net, 2, travel(surface, one));
+    crate::steps::put(&mut net, 3, travel(surface, 2));
+    crate::steps::put(&mut net, 4, travel(surface, one + 1));
+    crate::steps::put(&mut net, 5, travel(surface, two));
     if n < 3 {
         return net;
     }
     let three = two + n - 1;
-    steps::put(&mut net, 6, travel(surface, 3));
-    steps::put(&mut net, 7, travel(surface, one + 2));
-    steps::put(&mut net, 8, travel(surface, two + 1));
-    steps::put(&mut net, 9, travel(surface, three));
+    crate::steps::put(&mut net, 6, travel(surface, 3));
+    crate::steps::put(&mut net, 7, travel(surface, one + 2));
+    crate::steps::put(&mut net, 8, travel(surface, two + 1));
+    crate::steps::put(&mut net, 9, travel(surface, three));
     if n < 4 {
         return net;
     }
-    steps::put(&mut net, 10, travel(surface, 4));
-    steps::put(&mut net, 11, travel(surface, one + 3));
-    steps::put(&mut net, 12, travel(surface, two + 2));
-    steps::put(&mut net, 13, travel(surface, three + 1));
-    steps::put(&mut net, 14, travel(surface, three + 2));
+    crate::steps::put(&mut net, 10, travel(surface, 4));
+    crate::steps::put(&mut net, 11, travel(surface, one + 3));
+    crate::steps::put(&mut net, 12, travel(surface, two + 2));
+    crate::steps::put(&mut net, 13, travel(surface, three + 1));
+    crate::steps::put(&mut net, 14, travel(surface, three + 2));
     net
 }
 
@@ -169,11 +172,11 @@ fn rectangle(
             a: travel(surface, 0),
             b: travel(surface, 1),
         };
-        return gather::last_row(t, count, second, net, 0, 1, 0, 1, sums);
+        return crate::gather::last_row(t, count, second, net, 0, 1, 0, 1, sums);
     }
     let net = load_box(surface);
-    let begun = gather::of_group(second, r);
-    gather::gather_row(t, count, second, &net, r, 0, begun, 0, 1, sums)
+    let begun = crate::gather::of_group(second, r);
+    crate::gather::gather_row(t, count, second, &net, r, 0, begun, 0, 1, sums)
 }
 
 // And of a triangle, of form 3 or of a patch.
@@ -190,10 +193,10 @@ pub fn triangle(t: &[u32; 40], count: usize, surface: &[i32], r: usize, sums: &m
             b: travel(surface, 1),
             c: travel(surface, 2),
         };
-        return gather::last_tri(t, count, net, 0, 1, 0, 1, sums);
+        return crate::gather::last_tri(t, count, net, 0, 1, 0, 1, sums);
     }
     let net = load_tri(surface, r);
-    gather::gather_tri(t, count, &net, r, 0, r, 0, 1, sums)
+    crate::gather::gather_tri(t, count, &net, r, 0, r, 0, 1, sums)
 }
 
 // Forms 1 and 2.

@@ -9,8 +9,8 @@ use lib.Dec.{ltb}
 use borrow.Author.Tests.{ltb-true, ltb-false, le-leb}
 use Rattle.spell.specs.Decimal.{digits}
 use Rattle.spell.proofs.Spelling.{digits-one, digits-more}
-use Rattle.words.specs.Words.{isDigit, every, spelled}
-use Rattle.words.proofs.Runs.{every-last}
+use Rattle.text.specs.words.Words.{isDigit, every, spelled}
+use Rattle.text.proofs.words.Runs.{every-last}
 
 -- a number below 10, or ten times what is over the last digit
 module _ (P : ℕ → Type 0) (few : (n : ℕ) → n < 10 → P n) (many : (n : ℕ) → 10 ≤ n → P (n / 10) → P n) where

@@ -5,13 +5,13 @@ use mathlib.Core.Bool.{true, false}
 use mathlib.Core.List.{List, [], _∷_, _++_, map}
 use Prim.Native.Nat.{ℕ}
 use lib.IntN.{pos}
-use Rattle.words.specs.Words.{isBlank, isSolid, isDigit, run, every, wordAfter, next, spelled, signed, digitsWithin, numberOf, begins, isAge, ageOf}
-use Rattle.words.specs.declared.Cursor.{Cursor}
-use Rattle.numbers.specs.Numbers.{number, headed, value, afterValues, values, listed}
-use Rattle.kinds.specs.Kinds.{begun, ended}
+use Rattle.text.specs.words.Words.{isBlank, isSolid, isDigit, run, every, wordAfter, next, spelled, signed, digitsWithin, numberOf, begins, isAge, ageOf}
+use Rattle.text.specs.declared.words.Cursor.{Cursor}
+use Rattle.text.specs.numbers.Numbers.{number, headed, value, afterValues, values, listed}
+use Rattle.text.specs.kinds.Kinds.{begun, ended}
 use Rattle.text.specs.Line.{Said, aged, request, said}
-use Rattle.rooms.specs.Shown.{roomed}
-use Rattle.rooms.specs.declared.Rooms.{Rooms}
+use Rattle.text.specs.rooms.Shown.{roomed}
+use Rattle.text.specs.declared.rooms.Rooms.{Rooms}
 
 -- `1 1 0 1 2 0 100 2 0 1024`
 p1 : List ℕ

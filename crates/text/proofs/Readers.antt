@@ -7,16 +7,16 @@ use native.Mathlib.Omega.{arith}
 use lib.Dec.{ltb}
 use lib.ListN.{length}
 use borrow.Author.Tests.{ltb-true, ltb-false}
-use Rattle.words.specs.Words.{next}
-use Rattle.words.specs.Read.{Inside}
-use Rattle.words.specs.declared.Cursor.{Cursor}
-use Rattle.numbers.specs.Numbers.{number, headed, afterValues, values, listed}
-use Rattle.numbers.specs.declared.Headed.{Headed}
-use Rattle.kinds.specs.Kinds.{longestLine, overlong, begun, ended}
-use Rattle.kinds.proofs.Owed.{begun-overlong}
+use Rattle.text.specs.words.Words.{next}
+use Rattle.text.specs.words.Read.{Inside}
+use Rattle.text.specs.declared.words.Cursor.{Cursor}
+use Rattle.text.specs.numbers.Numbers.{number, headed, afterValues, values, listed}
+use Rattle.text.specs.declared.numbers.Headed.{Headed}
+use Rattle.text.specs.kinds.Kinds.{longestLine, overlong, begun, ended}
+use Rattle.text.proofs.kinds.Owed.{begun-overlong}
 use Rattle.request.specs.Head.{mostPoints}
-use Rattle.rooms.specs.Shown.{roomed}
-use Rattle.rooms.specs.declared.Roomed.{Roomed}
+use Rattle.text.specs.rooms.Shown.{roomed}
+use Rattle.text.specs.declared.rooms.Roomed.{Roomed}
 use Rattle.text.specs.Line.{aged, request, said}
 use Rattle.text.specs.declared.Aged.{Aged}
 

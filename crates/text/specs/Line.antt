@@ -6,12 +6,12 @@ use lib.Dec.{eqb}
 use lib.IntN.{ℤ}
 use Rattle.request.specs.declared.Head.{Head}
 use Rattle.request.specs.Head.{mostPoints}
-use Rattle.words.specs.Words.{next, wordAt, because, ageOf}
-use Rattle.words.specs.declared.Cursor.{Cursor}
-use Rattle.kinds.specs.Kinds.{begun, ended}
-use Rattle.numbers.specs.Numbers.{headed, listed}
-use Rattle.rooms.specs.Shown.{roomed}
-use Rattle.rooms.specs.declared.Rooms.{Rooms}
+use Rattle.text.specs.words.Words.{next, wordAt, because, ageOf}
+use Rattle.text.specs.declared.words.Cursor.{Cursor}
+use Rattle.text.specs.kinds.Kinds.{begun, ended}
+use Rattle.text.specs.numbers.Numbers.{headed, listed}
+use Rattle.text.specs.rooms.Shown.{roomed}
+use Rattle.text.specs.declared.rooms.Rooms.{Rooms}
 use Rattle.text.specs.declared.Aged.{Aged}
 
 -- `age=` and digits, unless no word is left, and then the age is 0

@@ -5,10 +5,10 @@ use Prim.Native.Nat.{ℕ, _≤_}
 use lib.IntN.{ℤ}
 use lib.ListN.{length}
 use lib.Seq.{sets}
-use Rattle.words.specs.Read.{Inside}
-use Rattle.words.specs.declared.Cursor.{Cursor}
-use Rattle.numbers.specs.Numbers.{most}
-use Rattle.kinds.specs.Kinds.{longestLine}
+use Rattle.text.specs.words.Read.{Inside}
+use Rattle.text.specs.declared.words.Cursor.{Cursor}
+use Rattle.text.specs.numbers.Numbers.{most}
+use Rattle.text.specs.kinds.Kinds.{longestLine}
 use Rattle.text.specs.Line.{aged, said}
 use Rattle.text.specs.declared.Reading.{Reading}
 use Rattle.text.specs.declared.Aged.{Aged}

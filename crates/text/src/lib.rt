@@ -1,17 +1,24 @@
 // Request lines, read: what a line says, or what is wrong with it and where. The readers are handed a cursor and hand one on,
 // straight to the end of the line; once it is refused they read nothing more.
-ghost use Rattle.words.specs.Read.{Inside};
+pub mod kinds;
+pub mod numbers;
+pub mod pieces;
+pub mod rooms;
+pub mod tell;
+pub mod words;
+
+ghost use Rattle.text.specs.words.Read.{Inside};
 ghost use Rattle.text.specs.Read.{ReadsAge, ReadsLine};
-use kinds::begin;
-use kinds::read_end;
-use numbers::read_head;
-use numbers::read_list;
+use crate::kinds::begin;
+use crate::kinds::read_end;
+use crate::numbers::read_head;
+use crate::numbers::read_list;
+use crate::rooms::Rooms;
+use crate::rooms::read_rooms;
+use crate::words::Cursor;
+use crate::words::age_of;
+use crate::words::next;
 use request::Head;
-use rooms::Rooms;
-use rooms::read_rooms;
-use words::Cursor;
-use words::age_of;
-use words::next;
 
 // What a line says besides its two lists, of which the counts are here: a request, unless the cursor is refused.
 pub struct Reading {

@@ -2,7 +2,7 @@
 use mathlib.Core.Path.{_≡_, refl}
 use Prim.Native.Nat.{_-_, _≤_}
 use lib.ListN.{length, take}
-use Rattle.answers.proofs.Parts.{takes-further}
+use Rattle.asking.proofs.answers.Parts.{takes-further}
 use Rattle.asking.specs.Asked.{Carries}
 use Rattle.asking.proofs.Telling.{carries-none, turn-more, part-over}
 use borrow.Author.Needs.{needs}

@@ -1,12 +1,11 @@
 -- `compose::compose` meets its contract: a refusal leaves the three arrays; an acceptance writes the words of the numerators,
 -- which are 01's (rule Composed net), and each of them rounded. Assumes nothing.
-use mathlib.Core.Path.{refl, sym, ap, _∙_}
+use mathlib.Core.Path.{refl}
 use borrow.Author.Needs.{needs}
 use Rattle.request.specs.Request.{Request, requestOf}
-use Rattle.request.proofs.Accepted.{accepts}
 use Rattle.net.specs.Sizes.{Composable}
 use Rattle.compose.specs.Afterwards.{Arrays, arrays, roomsOf}
-use Rattle.compose.proofs.Entry.{refused-result, composable, Granted, granted, points-at, accepted-result}
+use Rattle.compose.proofs.Entry.{refused-result, grants, composable, Granted, granted, points-at, accepted-result}
 use Rattle.compose.proofs.compose.Statement.{statement}
 use Rattle.compose.proofs.compose.Tie as tie
 
@@ -17,11 +16,14 @@ abbrev lent : tie.Start → Arrays
 lent s = arrays (s .args .high .now) (s .args .low .now) (s .args .points .now)
 
 -- where the request is accepted: from where the function begins, and from behind each call
-abbrev judged : tie.Else1 → tie.After-judge
+abbrev judged : tie.Else1 → tie.After-judged
 judged c = c .before .before
 
+abbrev start : tie.After-judged → tie.Start
+start c = c .before .before .before .before .before
+
 abbrev begun : tie.Else1 → tie.Start
-begun c = judged c .before .before
+begun c = start (judged c)
 
 abbrev counted : tie.After-write-all-arg3 → tie.After-degree
 counted c = c .before .before .before .before
@@ -39,23 +41,32 @@ accepted c = c .before .before
 fine : (c : tie.Else1) → Composable (rq (begun c))
 fine c =
     let s = begun c in
-    let zero-is = ap (λ a. a .number) (sym (judged c .judge .ensures)) ∙ c .if1 .left in
-    composable (rq s) (s .args .age .0) _ (accepts (rq s) (s .args .age .0) (roomsOf (lent s)) zero-is)
+    composable (rq s) (s .args .age .0) (roomsOf (lent s))
+    (grants (rq s) (s .args .age .0) (roomsOf (lent s)) (judged c .judged .result) (judged c .judged .ensures) (c .if1 .left))
 
-room : (c : tie.Else1) → Granted (rq (begun c)) (lent (begun c)) (judged c .judge .result .count)
-room c = granted (rq (begun c)) (begun c .args .age .0) (lent (begun c)) (judged c .judge .result) (judged c .judge .ensures) (c .if1 .left)
+room : (c : tie.Else1) → Granted (rq (begun c)) (lent (begun c)) (judged c .judged .result .count)
+room c = granted (rq (begun c)) (begun c .args .age .0) (lent (begun c)) (judged c .judged .result) (judged c .judged .ensures) (c .if1 .left)
 
-judge-requires : tie.Need-judge-requires
-judge-requires c κs = search needs
+judged-requires : tie.Need-judged-requires
+judged-requires c κs = search needs
 
 refused-requires : tie.Need-refused-requires
 refused-requires c κs = search needs
 
+same-length : tie.Need-same-length
+same-length c = search needs
+
+same-length-2 : tie.Need-same-length-2
+same-length-2 c = search needs
+
+same-length-3 : tie.Need-same-length-3
+same-length-3 c = search needs
+
 returns : tie.Need-returns
 returns c =
     let j = c .before .before .before in
-    let s = j .before .before in
-    rw (c .refused .ensures) (refused-result (rq s) _ (lent s) _ (j .judge .ensures) (c .before .if1 .taken))
+    let s = start j in
+    rw (c .refused .ensures) (refused-result (rq s) _ (lent s) _ (j .judged .ensures) (c .before .if1 .taken))
 
 slice-aggregate-numerators : tie.Need-slice-aggregate-numerators
 slice-aggregate-numerators c = search needs
@@ -81,14 +92,14 @@ write-all-requires c κs =
       r .enough,
     )
 
-same-length : tie.Need-same-length
-same-length c = search needs
+same-length-4 : tie.Need-same-length-4
+same-length-4 c = search needs
 
-same-length-2 : tie.Need-same-length-2
-same-length-2 c = search needs
+same-length-5 : tie.Need-same-length-5
+same-length-5 c = search needs
 
-same-length-3 : tie.Need-same-length-3
-same-length-3 c = search needs
+same-length-6 : tie.Need-same-length-6
+same-length-6 c = search needs
 
 returns-2 : tie.Need-returns-2
 returns-2 c =
@@ -96,14 +107,17 @@ returns-2 c =
     let n = formed (w .before) in
     let o = accepted n in
     accepted-result (rq (begun o)) _ _ _ (fine o) (n .numerators .ensures .0) (counted (w .before) .degree .ensures) (room o .is)
-    _ (lent (begun o)) _ _ (judged o .judge .ensures) (o .if1 .left) refl (reported (w .before) .reported .ensures) _ (w .write-all .ensures)
+    _ (lent (begun o)) _ _ (judged o .judged .ensures) (o .if1 .left) refl (reported (w .before) .reported .ensures) _ (w .write-all .ensures)
 
 pub compose-spec : {M : Type 1} → statement M
 compose-spec =
     tie.close
     (tie.spec
-    judge-requires
+    judged-requires
     refused-requires
+    same-length
+    same-length-2
+    same-length-3
     returns
     slice-aggregate-numerators
     numerators-requires
@@ -111,7 +125,7 @@ compose-spec =
     degree-requires
     slice-aggregate-write-all
     write-all-requires
-    same-length
-    same-length-2
-    same-length-3
+    same-length-4
+    same-length-5
+    same-length-6
     returns-2)

@@ -1,7 +1,7 @@
 -- `day::read_all` meets its contract: the parts so far were taken. Assumes nothing.
 use mathlib.Core.Path.{_≡_, refl}
 use lib.ListN.{length}
-use Rattle.daily.specs.Read.{afterPart}
+use Rattle.day.specs.daily.Read.{afterPart}
 use Rattle.reading.specs.Parts.{Took}
 use Rattle.reading.proofs.Taking.{took-none, took-more}
 use borrow.Author.Needs.{needs}

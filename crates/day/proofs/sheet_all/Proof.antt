@@ -4,10 +4,10 @@ use native.Mathlib.Omega.{arith}
 use lib.ListN.{length-take}
 use Rattle.pairs.specs.Cut.{longestRecord}
 use Rattle.sheets.specs.Sheet.{sheetIn}
-use Rattle.sheet_lines.specs.Lines.{sheetLines, linesRoom}
-use Rattle.daily.specs.declared.State.{State}
-use Rattle.daily.specs.Read.{blankState, afterPart}
-use Rattle.daily.proofs.Promises.{same-sheet}
+use Rattle.day.specs.sheet_lines.Lines.{sheetLines, linesRoom}
+use Rattle.day.specs.declared.daily.State.{State}
+use Rattle.day.specs.daily.Read.{blankState, afterPart}
+use Rattle.day.proofs.daily.Promises.{same-sheet}
 use Rattle.reading.proofs.Taking.{failed, written}
 use borrow.Author.Needs.{needs}
 use Rattle.day.proofs.sheet_all.Statement.{statement}

@@ -1,7 +1,7 @@
 -- `night::read_all` meets its contract: the parts so far were taken. Assumes nothing.
 use mathlib.Core.Path.{_≡_, refl}
 use lib.ListN.{length}
-use Rattle.tally.specs.Read.{afterPart}
+use Rattle.door.specs.tally.Read.{afterPart}
 use Rattle.reading.specs.Parts.{Took}
 use Rattle.reading.proofs.Taking.{took-none, took-more}
 use borrow.Author.Needs.{needs}

@@ -7,7 +7,7 @@ use native.Mathlib.Omega.{arith}
 use borrow.Author.Needs.{needs}
 use Rattle.patch_net.specs.Patch.{Patch, patchOf}
 use Rattle.patch_net.specs.Sizes.{Composable}
-use Rattle.patch_sums.proofs.Summing.{longest-most}
+use Rattle.patch.proofs.patch_sums.Summing.{longest-most}
 use Rattle.patch.proofs.Placing.{longest-is, refused-result, composable, exact-room, points-room, fitting, accepted-result}
 use Rattle.patch.proofs.patch.Statement.{statement}
 use Rattle.patch.proofs.patch.Tie as tie

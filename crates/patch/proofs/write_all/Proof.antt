@@ -4,7 +4,7 @@ use Prim.Native.Nat.{_+_, _-_, _≤_, _<_}
 use native.Mathlib.Omega.{arith}
 use lib.ListN.{length}
 use Rattle.patch_net.proofs.Standing.{Stands, stands-first, stands-next}
-use Rattle.patch_sums.specs.Contract.{indexOf}
+use Rattle.patch.specs.patch_sums.Contract.{indexOf}
 use Rattle.patch.specs.Writing.{Wrote, Fits}
 use Rattle.patch.proofs.Placing.{wrote-none, exact-long, points-long, wrote-more}
 use Rattle.patch.proofs.write_all.Statement.{statement}

@@ -12,7 +12,7 @@ use Rattle.two_words.specs.Words.{twoWords, Roundable}
 use Rattle.two_words.proofs.Only.{words-worth}
 use Rattle.patch_net.specs.Patch.{Index}
 use Rattle.patch_net.specs.Composed.{multinomial}
-use Rattle.patch_sums.specs.Contract.{indexOf}
+use Rattle.patch.specs.patch_sums.Contract.{indexOf}
 use Rattle.patch.specs.Writing.{exactAt, pointAt, Fits}
 use Rattle.patch.proofs.Placing.{fits-word, point-most, roundable}
 use Rattle.patch.proofs.write_place.Statement.{statement}

@@ -1,6 +1,6 @@
 -- `sums::load_box` meets its contract: each number is the control value of its place. Assumes nothing.
 use borrow.Author.Needs.{needs}
-use Rattle.steps.proofs.Fronts.{front}
+use Rattle.sums.proofs.steps.Fronts.{front}
 use Rattle.sums.proofs.Loading.{box-loaded}
 use Rattle.sums.proofs.load_box.Statement.{statement}
 use Rattle.sums.proofs.load_box.Tie as tie

@@ -2,8 +2,8 @@
 use mathlib.Core.Path.{_≡_, refl, _∙_}
 use native.Mathlib.Omega.{arith}
 use borrow.Author.Needs.{needs}
-use Rattle.steps.specs.Layout.{before}
-use Rattle.steps.proofs.Fronts.{front}
+use Rattle.sums.specs.steps.Layout.{before}
+use Rattle.sums.proofs.steps.Fronts.{front}
 use Rattle.sums.proofs.Loading.{triangle-loaded, place-0, place-1, place-2, place-3, place-4, place-5, place-6, place-7}
 use Rattle.sums.proofs.Loading.{place-8, place-9, place-10, place-11, place-12, place-13, place-14}
 use Rattle.sums.proofs.load_tri.Statement.{statement}

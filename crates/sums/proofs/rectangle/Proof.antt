@@ -1,7 +1,7 @@
 -- `sums::rectangle` meets its contract. Assumes nothing.
 use native.Mathlib.Omega.{arith}
 use borrow.Author.Needs.{needs}
-use Rattle.steps.proofs.Fronts.{front}
+use Rattle.sums.proofs.steps.Fronts.{front}
 use Rattle.sums.proofs.Starting.{few-small, loaded-small, one-ready, one-done, box-done}
 use Rattle.sums.proofs.rectangle.Statement.{statement}
 use Rattle.sums.proofs.rectangle.Tie as tie

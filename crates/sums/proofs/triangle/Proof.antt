@@ -1,7 +1,7 @@
 -- `sums::triangle` meets its contract. Assumes nothing.
 use native.Mathlib.Omega.{arith}
 use borrow.Author.Needs.{needs}
-use Rattle.steps.proofs.Fronts.{front}
+use Rattle.sums.proofs.steps.Fronts.{front}
 use Rattle.sums.proofs.Starting.{few-small, loaded-small, three-done, triangle-done}
 use Rattle.sums.proofs.triangle.Statement.{statement}
 use Rattle.sums.proofs.triangle.Tie as tie

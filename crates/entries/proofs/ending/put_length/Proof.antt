@@ -11,11 +11,8 @@ slice-aggregate-put-natural c = search needs
 put-natural-requires : tie.Need-put-natural-requires
 put-natural-requires c κs = search needs
 
-slice-aggregate-put-natural-2 : tie.Need-slice-aggregate-put-natural-2
-slice-aggregate-put-natural-2 c = search needs
-
-put-natural-requires-2 : tie.Need-put-natural-requires-2
-put-natural-requires-2 c κs = search needs
+put-at-byte-requires : tie.Need-put-at-byte-requires
+put-at-byte-requires c κs = search needs
 
 slice-aggregate-put : tie.Need-slice-aggregate-put
 slice-aggregate-put c = search needs
@@ -29,7 +26,7 @@ same-length c = search needs
 returns : tie.Need-returns
 unfolding noLength
 returns c = puts-then _ _ _ _ _ _ _ _ (puts-then _ _ _ _ _ _ _ _ (c .before .before .before .before .before .before .before .before .before .before
-    .before .before .put-natural .ensures) (c .before .before .before .before .before .before .before .put-natural2 .ensures)) (c .before .before .put
+    .before .put-natural .ensures) (c .before .before .before .before .before .before .before .put-at-byte .ensures)) (c .before .before .put
     .ensures)
 
 pub put-length-spec : {M : Type 1} → statement M
@@ -38,8 +35,7 @@ put-length-spec =
     (tie.spec
     slice-aggregate-put-natural
     put-natural-requires
-    slice-aggregate-put-natural-2
-    put-natural-requires-2
+    put-at-byte-requires
     slice-aggregate-put
     put-requires
     same-length

@@ -11,19 +11,16 @@ slice-aggregate-put-natural c = search needs
 put-natural-requires : tie.Need-put-natural-requires
 put-natural-requires c κs = search needs
 
-slice-aggregate-put-natural-2 : tie.Need-slice-aggregate-put-natural-2
-slice-aggregate-put-natural-2 c = search needs
-
-put-natural-requires-2 : tie.Need-put-natural-requires-2
-put-natural-requires-2 c κs = search needs
+put-at-byte-requires : tie.Need-put-at-byte-requires
+put-at-byte-requires c κs = search needs
 
 same-length : tie.Need-same-length
 same-length c = search needs
 
 returns : tie.Need-returns
 unfolding titleOf
-returns c = puts-then _ _ _ _ _ _ _ _ (c .before .before .before .before .before .before .before .put-natural .ensures) (c .before .before
-    .put-natural2 .ensures)
+returns c = puts-then _ _ _ _ _ _ _ _ (c .before .before .before .before .before .before .put-natural .ensures) (c .before .before
+    .put-at-byte .ensures)
 
 pub put-title-spec : {M : Type 1} → statement M
 put-title-spec =
@@ -31,7 +28,6 @@ put-title-spec =
     (tie.spec
     slice-aggregate-put-natural
     put-natural-requires
-    slice-aggregate-put-natural-2
-    put-natural-requires-2
+    put-at-byte-requires
     same-length
     returns)

@@ -1,0 +1,136 @@
+-- `sums::gather::last_tri` meets its contract: each turn adds one weighed value. Assumes nothing.
+use mathlib.Core.Path.{refl}
+use Prim.Native.Nat.{_-_, _^_, _≤_}
+use native.Mathlib.Nat.{mul-le-mul-left}
+use native.Mathlib.Omega.{arith}
+use Rattle.sums.specs.steps.Layout.{held}
+use Rattle.sums.specs.steps.Stepped.{entryMost}
+use Rattle.sums.specs.steps.Few.{inThree}
+use Rattle.sums.proofs.steps.Mixing.{among-most}
+use Rattle.sums.proofs.gather.Gathering.{Ending, weight-small, last-start, last-done, last-small, last-asks, last-more}
+use Rattle.sums.proofs.gather.Counting.{last-counted}
+use Rattle.sums.proofs.gather.Triangles.{triangle-corner, last-same}
+use Rattle.sums.proofs.gather.last_tri.Statement.{statement}
+use Rattle.sums.proofs.gather.last_tri.Tie as tie
+
+abbrev Inv-loop : tie.InvT-loop
+Inv-loop t count net from begun s weight sums₀ closed c₀ w₀ sums c w = (c ≤ count) × Ending t count 0 0 from begun s weight sums₀ (held (inThree net))
+    closed c w sums
+
+abbrev μ-loop : tie.MeasureT-loop
+μ-loop t count net from begun s weight sums₀ closed c₀ w₀ sums c w = count - c
+
+abbrev first : tie.In-loop Inv-loop μ-loop → tie.Start Inv-loop μ-loop
+first i = i .before .before
+
+mul-closed : tie.Need-mul-closed Inv-loop μ-loop
+mul-closed c =
+    let small = weight-small _ _ _ _ _ _ _ _ _ _ (c .pre .0) in
+    omega (arith, mul-le-mul-left (c .args .weight) (c .pre .0 .able .few))
+
+loop-holds : tie.Need-loop-holds Inv-loop μ-loop
+loop-holds c = (let h = c .pre .0 .able .here in omega arith, last-start _ _ _ _ _ _ _ _ _ (c .pre .0) _)
+
+weight-of-requires : tie.Need-weight-of-requires Inv-loop μ-loop
+weight-of-requires c κs = let n = first c .pre .0 .able .good .few in omega arith
+
+mul-v : tie.Need-mul-v Inv-loop μ-loop
+mul-v c =
+    let i = c .before in
+    let p = last-small _ _ _ _ _ _ _ _ _ (first i .pre .0) _ _ _ _ _ (i .before .loop .inv .1) (i .loop-test .taken) _ _ refl (c .weight-of .ensures) in
+    omega arith
+
+share-requires : tie.Need-share-requires Inv-loop μ-loop
+share-requires c κs = let n = first (c .before) .pre .0 .able .good .few in (omega arith, omega arith)
+
+share-requires-2 : tie.Need-share-requires-2 Inv-loop μ-loop
+share-requires-2 c κs = let n = first (c .before .before) .pre .0 .able .good .few in (omega arith, omega arith)
+
+mix-requires : tie.Need-mix-requires Inv-loop μ-loop
+unfolding entryMost
+mix-requires c κs =
+    let i = c .before .before .before in
+    let p = first i .pre in
+    (rw (c .before .share .ensures, c .share2 .ensures) (p .1 .both _ (i .loop-test .taken)), p .2 .most 0, p .2 .most 1, p .2 .most 2)
+
+key-requires : tie.Need-key-requires Inv-loop μ-loop
+key-requires c κs = let n = first (c .before .before .before .before .before) .pre .0 .able .good .few in omega arith
+
+add-settle : tie.Need-add-settle Inv-loop μ-loop
+add-settle c =
+    let i = c .before .before .before .before .before .before in
+    let p = last-asks _ _ _ _ _ _ _ _ _ (first i .pre .0) _ _ _ _ _ (i .before .loop .inv .1) (i .loop-test .taken) _ _ (c .key .ensures)
+    (c .before .before .before .before .before .weight-of .ensures) in
+    let long = i .before .loop .inv .1 .sofar .toward .long in
+    let q = first i .good in
+    omega arith
+
+settle-requires : tie.Need-settle-requires Inv-loop μ-loop
+unfolding entryMost
+settle-requires c κs =
+    let i = c .before .before .before .before .before .before in
+    let p = first i .pre in
+    let a = last-asks _ _ _ _ _ _ _ _ _ (first i .pre .0) _ _ _ _ _ (i .before .loop .inv .1) (i .loop-test .taken) _ _ (c .key .ensures)
+    (c .before .before .before .before .before .weight-of .ensures) in (
+      a .0,
+      rw (c .before .before .mix .ensures) (among-most _ _ _ _ _ (2 ^ 42) (rw (
+        c .before .before .before .before .share .ensures,
+        c .before .before .before .share2 .ensures,
+      ) (p .1 .both _ (i .loop-test .taken))) (p .2 .most 0) (p .2 .most 1) (p .2 .most 2)),
+      a .1,
+    )
+
+add-c : tie.Need-add-c Inv-loop μ-loop
+add-c c = omega arith
+
+loop-less : tie.Need-loop-less Inv-loop μ-loop
+loop-less c = omega arith
+
+loop-again : tie.Need-loop-again Inv-loop μ-loop
+loop-again c =
+    let k = c .before .before in
+    let i = k .before .before .before .before .before .before in (
+      omega arith,
+      last-more _ _ _ _ _ _ _ _ _ (first i .pre .0) _ _ _ _ _ (i .before .loop .inv .1) (i .loop-test .taken) _ _ (k .key .ensures)
+          (k .before .before .before .before .before .weight-of .ensures)
+          (held _) (last-same _ _ _ _ _ _ _ _ _ (k .before .before .before .before .share .ensures) (k .before .before .before .share2 .ensures)
+          (rw (k .before .before .before .before .share .ensures, k .before .before .before .share2 .ensures)
+          (first i .pre .1 .both _ (i .loop-test .taken))) (k .before .before .mix .ensures)) _ (triangle-corner _) _ (c .before .settle .ensures),
+    )
+
+sub-result : tie.Need-sub-result Inv-loop μ-loop
+sub-result c = let h = c .before .before .pre .0 .able .here in omega arith
+
+same-length : tie.Need-same-length Inv-loop μ-loop
+same-length c = c .before .loop .inv .1 .sofar .toward .long
+
+returns : tie.Need-returns Inv-loop μ-loop
+returns c =
+    let r = c .before .before .pre .0 in (
+      last-counted _ _ _ _ _ _ (r .able .good .few) (let h = r .able .here in omega arith),
+      last-done _ _ _ _ _ _ _ _ _ r _ _ _ _ _
+          (c .before .loop .inv .1) (c .loop-test .left),
+    )
+
+pub last-tri-spec : {M : Type 1} → statement M
+last-tri-spec =
+    tie.close
+    (tie.spec
+    Inv-loop
+    μ-loop
+    mul-closed
+    loop-holds
+    weight-of-requires
+    mul-v
+    share-requires
+    share-requires-2
+    mix-requires
+    key-requires
+    add-settle
+    settle-requires
+    add-c
+    loop-less
+    loop-again
+    sub-result
+    same-length
+    returns)
