@@ -1,9 +1,11 @@
 -- Worked parts through the definitions: two lines and a stay without symmetry, with small path numbers, minus zero, and
 -- each refusal before those that come after it. Numerators by 01's sum (rule Composed net), reckoned elsewhere; f64 by their bits.
 -- Assumes nothing.
-use mathlib.Core.Path.{_≡_, refl}
+use mathlib.Core.Path.{_≡_, refl, sym}
+use mathlib.Core.Bool.{true}
 use mathlib.Core.List.{List, [], _∷_, map}
-use Prim.Native.Nat.{ℕ, _-_}
+use Prim.Native.Nat.{ℕ, _-_, _≤_}
+use native.Mathlib.Omega.{arith}
 use lib.IntN.{ℤ, pos, negsuc}
 use lib.ListN.{length}
 use lib.Ieee.{binary64, eq, ofInt, ofBits, toBits}
@@ -20,6 +22,7 @@ use Rattle.net.specs.Blossom.{step, blossom}
 use Rattle.net.specs.Composed.{overChoices, total, weight, arguments, numerator}
 use Rattle.floats.specs.Float.{float, bits}
 use Rattle.floats.specs.Path.{pathOf}
+use Rattle.floats.proofs.Numbers.{path-is}
 use Rattle.part.specs.declared.Part.{Part}
 use Rattle.part.specs.declared.Part.the-variants.{Stay, Line}
 use Rattle.part.specs.Part.{named, pathDegree, headOf, requestOf}
@@ -40,12 +43,15 @@ pub record Worked : Type 0 where
   pub answer : Answer
   pub bits : List ℕ
 
+abbrev partOf : ℕ → List ℤ → List ℤ → Request
+partOf m surface path = record { head = record { form = 1; first = m; second = 0; N = length path - 1 }; surface = surface; path = path }
+
 unfoldable pub asked : Worked → Request
 asked w = requestOf (w .m) (w .surface) (w .part)
 
 -- the request that the part is said to be
 unfoldable pub said : Worked → Request
-said w = record { head = record { form = 1; first = w .m; second = 0; N = length (w .path) - 1 }; surface = w .surface; path = w .path }
+said w = partOf (w .m) (w .surface) (w .path)
 
 -- a line from 0 to one half, which is no path number, is refused
 unfoldable pub refusal : ℕ → List ℤ → ℕ → ℕ → Worked
@@ -104,12 +110,43 @@ worked =
     ∷ refusal 0 (pos 7 ∷ []) 7 1
     ∷ []
 
--- the parts are the requests that they are said to be, and these are answered so
+-- which path number an f64 is: the one that it equals
+is-number : (u k : ℕ) → k ≤ 1024 → eq (float (pos k)) (ofBits binary64 u) ≡ true → pathOf (ofBits binary64 u) ≡ k
+is-number u k h e = sym (path-is (ofBits binary64 u) k h e)
+
+-- one half equals none of the 1,025, which is looked at once for all
+half-named : pathOf (ofBits binary64 0x3fe0_0000_0000_0000) ≡ 1025
+unfolding float pathOf ofInt ofBits eq least
+half-named = refl
+
+-- the parts are the requests that they are said to be
+all-said : map asked worked ≡ map said worked
+unfolding worked refusal asked said stay line requestOf named pathDegree headOf float ofInt ofBits eq
+all-said =
+    let zero = is-number 0 0 (omega arith) refl in
+    let minus-zero = is-number 0x8000_0000_0000_0000 0 (omega arith) refl in
+    let one = is-number 0x3ff0_0000_0000_0000 1 (omega arith) refl in
+    let three = is-number 0x4008_0000_0000_0000 3 (omega arith) refl in
+    let five = is-number 0x4014_0000_0000_0000 5 (omega arith) refl in
+    let six = is-number 0x4018_0000_0000_0000 6 (omega arith) refl in
+    let nine = is-number 0x4022_0000_0000_0000 9 (omega arith) refl in
+    λ t.
+    partOf 2 (pos 2 ∷ pos 3 ∷ negsuc 1 ∷ []) (pos (zero t) ∷ pos (three t) ∷ [])
+    ∷ partOf 4 (pos 7 ∷ negsuc 299 ∷ pos 4096 ∷ pos 11 ∷ negsuc 1 ∷ []) (pos (nine t) ∷ pos (five t) ∷ [])
+    ∷ partOf 3 (pos 5 ∷ negsuc 6 ∷ pos 0 ∷ pos 4000 ∷ []) (pos (six t) ∷ [])
+    ∷ partOf 1 (pos 0 ∷ negsuc 4 ∷ []) (pos (minus-zero t) ∷ pos (one t) ∷ [])
+    ∷ partOf 5 [] (pos (zero t) ∷ pos (half-named t) ∷ [])
+    ∷ partOf 2 (pos 4097 ∷ []) (pos (zero t) ∷ pos (half-named t) ∷ [])
+    ∷ partOf 1 (pos 7 ∷ negsuc 4096 ∷ []) (pos (zero t) ∷ pos (half-named t) ∷ [])
+    ∷ partOf 0 (pos 7 ∷ []) (pos (zero t) ∷ pos (half-named t) ∷ [])
+    ∷ []
+
+-- and these are answered so
 pub as-worked : (map asked worked ≡ map said worked)
     × (map (λ w. verdict (said w)) worked ≡ map (λ w. w .answer) worked)
     × (map (λ w. five (bitsAt (said w) (w .answer .count))) worked ≡ map (λ w. w .bits) worked)
-unfolding worked asked said refusal stay line requestOf named pathDegree headOf refusals verdict divided bitsAt five float bits pathOf ofInt ofBits toBits eq
+unfolding worked said refusal refusals verdict divided bitsAt five float bits ofInt ofBits toBits eq
     first refused decided least notDegree notSurface notValue notParameter valuePlace parameterPlace accepted beyondTravel beyondPath byForm degree
     longest surfaceCount
     numbers netOf placeOf numberAt pathNumber step blossom overChoices total weight arguments numerator sumOver sumTo choose
-as-worked = (refl, refl, refl)
+as-worked = (all-said, refl, refl)
