@@ -28,12 +28,12 @@ fn reply_to(line: &[u8], out: &mut [u8]) -> Replied
 {
     let word = next(line, begin(line));
     if is_kind(line, word, b"tick") {
-        return replying::tick_line::reply(line, word, out);
+        return crate::tick_line::reply(line, word, out);
     }
     if is_kind(line, word, b"patch") {
-        return replying::patch_line::reply(line, word, out);
+        return crate::patch_line::reply(line, word, out);
     }
-    replying::reply::reply(line, out)
+    crate::reply::reply(line, out)
 }
 
 fn say(line: &[u8], row: u64, out: &mut [u8], err: &mut [u8]) -> Lengths

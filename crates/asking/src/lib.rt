@@ -1,6 +1,9 @@
 // Answering an input: parts of it are read, and what `answers` says to a line is written out where the line ends. What a file
 // holds is not known here; it is promised that what was written is what is told of what was read.
 mod answers;
+mod patch_line;
+mod reply;
+mod tick_line;
 
 ghost use mathlib.Core.Path.{_≡_};
 ghost use Prim.Native.Nat.{_+_, _≤_};

@@ -23,11 +23,11 @@ use Rattle.text.proofs.Readers.{said-overlong}
 use Rattle.spell.specs.Decimal.{Front}
 use Rattle.spell.proofs.Writing.{front-read, written-front}
 use Rattle.text.specs.tell.Tell.{unreadable, complaint}
-use Rattle.replying.specs.tick_line.Line.{tickWord}
-use Rattle.replying.specs.tick_line.Line as ticks
-use Rattle.replying.specs.patch_line.Line.{patchWord}
-use Rattle.replying.specs.patch_line.Line as patches
-use Rattle.replying.specs.reply.Reply.{spokenAs, spoken}
+use Rattle.asking.specs.tick_line.Line.{tickWord}
+use Rattle.asking.specs.tick_line.Line as ticks
+use Rattle.asking.specs.patch_line.Line.{patchWord}
+use Rattle.asking.specs.patch_line.Line as patches
+use Rattle.asking.specs.reply.Reply.{spokenAs, spoken}
 use Rattle.asking.specs.answers.Answer.{spokenOf, answerOf, complaintOf}
 use Rattle.asking.specs.answers.Contract.{Says, enough, behindLine, Takes}
 use Rattle.asking.specs.declared.answers.lines.Lines.{Lines}

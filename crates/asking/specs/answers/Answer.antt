@@ -5,10 +5,10 @@ use Prim.Native.Nat.{ℕ}
 use lib.Dec.{eqb}
 use Rattle.text.specs.pieces.Kept.{isPassed}
 use Rattle.text.specs.kinds.Kinds.{isKind, opened, Spoken}
-use Rattle.replying.specs.tick_line.Line as ticks
-use Rattle.replying.specs.patch_line.Line as patches
+use Rattle.asking.specs.tick_line.Line as ticks
+use Rattle.asking.specs.patch_line.Line as patches
 use Rattle.text.specs.tell.Tell.{unreadable, complaint}
-use Rattle.replying.specs.reply.Reply as rides
+use Rattle.asking.specs.reply.Reply as rides
 
 -- what a line says, by its first word: `tick`, `patch`, or else it is a ride
 unfoldable pub spokenOf : List ℕ → Spoken

@@ -1,6 +1,6 @@
 -- `asking::answers::reply_to` meets its contract: a tick line, a patch line, or a ride. Assumes nothing.
-use Rattle.replying.specs.tick_line.Line.{tickWord}
-use Rattle.replying.specs.patch_line.Line.{patchWord}
+use Rattle.asking.specs.tick_line.Line.{tickWord}
+use Rattle.asking.specs.patch_line.Line.{patchWord}
 use Rattle.asking.proofs.answers.Parts.{named-fits, replies-tick, replies-patch, replies-ride}
 use borrow.Author.Needs.{needs}
 use Rattle.asking.proofs.answers.reply_to.Statement.{statement}
