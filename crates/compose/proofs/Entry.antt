@@ -24,7 +24,7 @@ use Rattle.net.specs.Sizes.{Composable}
 use Rattle.net.proofs.Bounds.{numerator-size}
 use Rattle.sums.specs.Contract.{Summed, Formed}
 use Rattle.compose.specs.Afterwards.{afterwards, Arrays, roomsOf, highAfter, lowAfter, pointsAfter, rideTree, entriesOf, entriesAfter}
-use Rattle.writing.specs.Placed.{roundedAt, PointsAt, Enough, Wrote}
+use Rattle.compose.specs.writing.Placed.{roundedAt, PointsAt, Enough, Wrote}
 use Rattle.compose.specs.Contract.{Composed}
 use Rattle.lists.proofs.Written.{afterwards-none, afterwards-same}
 

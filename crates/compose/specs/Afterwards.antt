@@ -6,7 +6,7 @@ use lib.Dec.{eqb}
 use lib.IntN.{ℤ}
 use lib.ListN.{length}
 unfoldable pub use Rattle.lists.specs.Lists.{listBelow, afterwards}
-pub use Rattle.writing.specs.Arrays.{Arrays, arrays}
+pub use Rattle.compose.specs.writing.Arrays.{Arrays, arrays}
 use Rattle.two_words.specs.Words.{highWord, lowWord}
 use Rattle.request.specs.declared.Head.{Head}
 use Rattle.request.specs.declared.Rooms.{Rooms}

@@ -1,5 +1,7 @@
 // The lean curve composer: the public entry (rule Forms and degrees; 01). A request is judged whole before anything is written; an
 // accepted one has its exact numerators, as a high and a low word each, and its rounded points written to the three lent arrays.
+mod writing;
+
 ghost use mathlib.Core.Path.{_≡_};
 ghost use Rattle.request.specs.Request.{requestOf};
 ghost use Rattle.request.specs.Refusal.{answer};
@@ -80,6 +82,6 @@ pub fn compose(
     let formed = sums::numerators(head, surface, path, &mut sums);
     let entries = reported(head, formed);
     let r = request::degree(head) as usize;
-    writing::write_all(&sums, answer.count, r, high, low, points);
+    crate::writing::write_all(&sums, answer.count, r, high, low, points);
     Composition { answer, entries }
 }

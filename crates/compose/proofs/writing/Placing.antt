@@ -6,8 +6,8 @@ use native.Mathlib.Omega.{arith}
 use lib.IntN.{ℤ}
 use lib.ListN.{length, set}
 use Rattle.lists.specs.Lists.{afterwards}
-use Rattle.writing.specs.Arrays.{Arrays}
-use Rattle.writing.specs.Placed.{Enough, Put, Wrote}
+use Rattle.compose.specs.writing.Arrays.{Arrays}
+use Rattle.compose.specs.writing.Placed.{Enough, Put, Wrote}
 use Rattle.lists.proofs.Written.{afterwards-none, afterwards-more, afterwards-length}
 
 -- each array is as long as it was

@@ -9,9 +9,9 @@ use Rattle.whole.specs.Round.{nearest}
 use Rattle.limbs.specs.Limbs.{worth}
 use Rattle.two_words.specs.Words.{twoWords}
 use Rattle.two_words.proofs.Only.{words-worth}
-use Rattle.writing.specs.Placed.{PointAt, roundedAt}
-use Rattle.writing.proofs.write_place.Statement.{statement}
-use Rattle.writing.proofs.write_place.Tie as tie
+use Rattle.compose.specs.writing.Placed.{PointAt, roundedAt}
+use Rattle.compose.proofs.writing.write_place.Statement.{statement}
+use Rattle.compose.proofs.writing.write_place.Tie as tie
 
 -- where the words were joined
 abbrev joining : tie.After-put-point-arg → tie.After-joined

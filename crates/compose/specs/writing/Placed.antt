@@ -10,7 +10,7 @@ use Rattle.limbs.specs.Limbs.{worth}
 use Rattle.two_words.specs.Words.{highWord, lowWord}
 use Rattle.request.specs.Head.{mostDegree, mostN, mostPoints}
 use Rattle.lists.specs.Lists.{afterwards}
-use Rattle.writing.specs.Arrays.{Arrays}
+use Rattle.compose.specs.writing.Arrays.{Arrays}
 
 -- numerator R over binomial(L, R)·1024^r, rounded
 unfoldable pub roundedAt : List ℤ → ℕ → ℕ → ℕ → ℤ

@@ -2,11 +2,11 @@
 use mathlib.Core.Path.{_≡_}
 use Prim.Native.Nat.{_-_, _≤_}
 use native.Mathlib.Omega.{arith}
-use Rattle.writing.specs.Arrays.{Arrays, arrays}
-use Rattle.writing.specs.Placed.{Wrote}
-use Rattle.writing.proofs.Placing.{SameLengths, wrote-none, same-lengths, still-enough, wrote-more}
-use Rattle.writing.proofs.write_all.Statement.{statement}
-use Rattle.writing.proofs.write_all.Tie as tie
+use Rattle.compose.specs.writing.Arrays.{Arrays, arrays}
+use Rattle.compose.specs.writing.Placed.{Wrote}
+use Rattle.compose.proofs.writing.Placing.{SameLengths, wrote-none, same-lengths, still-enough, wrote-more}
+use Rattle.compose.proofs.writing.write_all.Statement.{statement}
+use Rattle.compose.proofs.writing.write_all.Tie as tie
 
 abbrev Inv-loop : tie.InvT-loop
 Inv-loop sums count r high₀ low₀ points₀ R₀ high low points R =

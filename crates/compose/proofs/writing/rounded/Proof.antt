@@ -12,9 +12,9 @@ use Rattle.pascal.specs.Entry.{lastRow}
 use Rattle.pascal.proofs.Entries.{entry-in, entry-bound}
 use Rattle.net.proofs.Rounded.{choose-some}
 use Rattle.two_words.specs.Words.{twoWords}
-use Rattle.writing.specs.Placed.{PointAt}
-use Rattle.writing.proofs.rounded.Statement.{statement}
-use Rattle.writing.proofs.rounded.Tie as tie
+use Rattle.compose.specs.writing.Placed.{PointAt}
+use Rattle.compose.proofs.writing.rounded.Statement.{statement}
+use Rattle.compose.proofs.writing.rounded.Tie as tie
 
 some : (L R : ℕ) → R ≤ L → 0 < choose L R
 some L R h = let e : R + (L - R) ≡ L = omega arith in subst (λ n. 0 < choose n R) e (choose-some R (L - R))
