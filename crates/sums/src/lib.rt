@@ -9,7 +9,7 @@ ghost use mathlib.Core.List.{[], _∷_};
 ghost use Prim.Native.Nat.{_+_, _*_, _^_, _≤_, _<_};
 ghost use lib.IntN.{pos, natAbs};
 ghost use lib.Dec.{eqb, ltb};
-ghost use lib.ListN.{length, getD, set, replicate};
+ghost use lib.ListN.{length, getD, replicate};
 ghost use lib.Seq.{sets};
 ghost use Rattle.limbs.specs.Limbs.{Gained};
 ghost use Rattle.request.specs.Head.{numbers};
@@ -54,24 +54,16 @@ fn beside(path: &[i32], per: usize, c: usize) -> u64
     units::path_size_at(path, per * c + 1)
 }
 
-fn store(t: &mut [u32; 40], k: usize, x: u64)
-    requires { ⌜ (k < 40) × (x < 2 ^ 32) ⌝ }
-    ensures { λ _. ⌜ now (t .exit) ≡ set (now (t .entry)) k x ⌝ }
-{
-    let v = x as u32;
-    t[k] = v;
-}
-
 // Stores term c, of a ride or of a patch.
 pub fn store_term(t: &mut [u32; 40], c: usize, key: u64, weight: u64, a: u64, b: u64)
     requires { ⌜ (c < 10) × (key < 2 ^ 32) × (weight < 2 ^ 32) × (a ≤ 1024) × (b ≤ 1024) ⌝ }
     ensures { λ _. ⌜ now (t .exit) ≡ sets (now (t .entry)) (4 * c) (termNumbers key weight a b) ⌝ }
 {
     let k = 4 * c;
-    store(t, k, key);
-    store(t, k + 1, weight);
-    store(t, k + 2, a);
-    store(t, k + 3, b);
+    t[k] = key as u32;
+    t[k + 1] = weight as u32;
+    t[k + 2] = a as u32;
+    t[k + 3] = b as u32;
 }
 
 // The terms of a ride: point c weighs N over c, its key is its number.
