@@ -114,8 +114,7 @@ pub fn mix(x: u64, y: u64, p: Num, q: Num, r: Num) -> Num
     requires { ⌜ (x + y ≤ 1024) × (natAbs (p .0) ≤ 2 ^ 42) × (natAbs (q .0) ≤ 2 ^ 42) × (natAbs (r .0) ≤ 2 ^ 42) ⌝ }
     ensures { λ n. ⌜ n .0 ≡ among x y (p .0) (q .0) (r .0) ⌝ }
 {
-    let first = whole::sum(share(1024, p), share(x, less(r, p)));
-    whole::sum(first, share(y, less(q, p)))
+    whole::sum(toward(x, p, r), share(y, less(q, p)))
 }
 
 // Number k of the rectangle that s makes; gap is how far apart neighbours are.
