@@ -113,7 +113,7 @@ fn load_box(surface: &[i32]) -> [i64; 15]
     crate::steps::net_of(p, q, r, none, none)
 }
 
-// A triangle of degree n, diagonal by diagonal: its rows begin at 0, n + 1, 2n + 1 and 3n.
+// A triangle of degree n, diagonal by diagonal: its rows begin at 0, n + 1, 2n + 1, 3n, and of degree 4 at 14.
 fn load_tri(surface: &[i32], n: usize) -> [i64; 15]
     requires { ⌜ (valuePlace (now surface) ≡ length (now surface)) × (1 < n) × (n ≤ 4) ⌝ }
     ensures { λ q. ⌜ LoadedTriangle (now (surface .entry)) n q ⌝ }
