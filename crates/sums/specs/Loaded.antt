@@ -1,12 +1,16 @@
 -- What the array holds when a surface is loaded. Assumes nothing.
 use mathlib.Core.Path.{_≡_}
-use mathlib.Core.List.{List}
+use mathlib.Core.List.{List, [], _∷_}
 use Prim.Native.Nat.{ℕ, _+_, _≤_, _<_}
 use lib.IntN.{ℤ, pos}
 use lib.ListN.{getD}
 use Rattle.net.specs.Net.{Net, rowStart}
 use Rattle.sums.specs.steps.Layout.{held, rowOf, columnOf}
 use Rattle.sums.specs.steps.Stepped.{Small}
+
+-- three control values
+abbrev pub readThree : List ℤ → ℕ → ℕ → ℕ → List ℤ
+readThree surface a b c = getD surface a (pos 0) ∷ getD surface b (pos 0) ∷ getD surface c (pos 0) ∷ []
 
 -- form 3: a list of control values read as a net of degree n
 unfoldable pub stacked : ℕ → List ℤ → Net

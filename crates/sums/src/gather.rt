@@ -3,7 +3,7 @@
 // is about rides: weights, keys and path numbers come from the table.
 ghost use mathlib.Core.Path.{_≡_};
 ghost use mathlib.Core.Bool.{cond};
-ghost use Prim.Native.Nat.{_+_, _*_, _-_, _≤_, _<_};
+ghost use Prim.Native.Nat.{_+_, _*_, _-_, _^_, _≤_, _<_};
 ghost use lib.ListN.{getD};
 ghost use Rattle.whole.specs.Choose.{choose};
 ghost use Rattle.limbs.specs.Limbs.{Gained};
@@ -27,32 +27,28 @@ fn wide(x: u32) -> u64
     x as u64
 }
 
-fn index(x: u32) -> usize
-    ensures { λ r. ⌜ r ≡ x ⌝ }
-{
-    x as usize
-}
-
-fn key(t: &[u32; 40], c: usize) -> usize
-    requires { ⌜ c < 10 ⌝ }
-    ensures { λ r. ⌜ r ≡ keyAt (now (t .entry)) c ⌝ }
-{
-    index(t[4 * c])
-}
-
-fn weight_of(t: &[u32; 40], c: usize) -> u64
-    requires { ⌜ c < 10 ⌝ }
-    ensures { λ r. ⌜ r ≡ weightAt (now (t .entry)) c ⌝ }
-{
-    wide(t[4 * c + 1])
-}
-
-// The number of term c at i, which is 2 or 3.
+// The number of term c at i: its key at 0, its weight at 1, its path numbers at 2 and 3.
 fn share(t: &[u32; 40], c: usize, i: usize) -> u64
     requires { ⌜ (c < 10) × (i ≤ 3) ⌝ }
     ensures { λ r. ⌜ r ≡ shareAt (now (t .entry)) c i ⌝ }
 {
     wide(t[4 * c + i])
+}
+
+// Where term c takes a sum of place s.
+fn placed(t: &[u32; 40], c: usize, s: usize) -> usize
+    requires { ⌜ (c < 10) × (s + keyAt (now t) c < 2 ^ 64) ⌝ }
+    ensures { λ r. ⌜ r ≡ s + keyAt (now (t .entry)) c ⌝ }
+{
+    s + share(t, c, 0) as usize
+}
+
+// What a weight is with term c's.
+fn weighed(t: &[u32; 40], c: usize, w: u64) -> u64
+    requires { ⌜ (c < 10) × (w * weightAt (now t) c < 2 ^ 64) ⌝ }
+    ensures { λ r. ⌜ r ≡ w * weightAt (now (t .entry)) c ⌝ }
+{
+    w * share(t, c, 1)
 }
 
 // ---- the groups
@@ -133,9 +129,9 @@ pub fn last_row(
     let mut c = from;
     let mut w = weight;
     while c < count {
-        let heavy = w * weight_of(t, c);
+        let heavy = weighed(t, c, w);
         let value = crate::steps::toward(share(t, c, g), net.a, net.b);
-        limbs::settle(sums, s + key(t, c), heavy, value);
+        limbs::settle(sums, placed(t, c, s), heavy, value);
         w = closed;
         c += 1;
     }
@@ -172,8 +168,8 @@ fn pair_row(
         let q = crate::steps::four_two(net, turn, share(t, c, g));
         let onward = chosen(turn, 0, c);
         let opened = chosen(turn, second, b);
-        let place = s + key(t, c);
-        let v = w * weight_of(t, c);
+        let place = placed(t, c, s);
+        let v = weighed(t, c, w);
         let m = last_row(t, count, second, q, onward, opened, place, v, sums);
         n += 2 + m;
         w = closed;
@@ -216,8 +212,8 @@ pub fn gather_row(
         let u = share(t, c, g);
         let start = chosen(turn, 0, c);
         let began = chosen(turn, second, b);
-        let place = s + key(t, c);
-        let v = w * weight_of(t, c);
+        let place = placed(t, c, s);
+        let v = weighed(t, c, w);
         let m = if left == 3 {
             let q = crate::steps::row_four(net, u, apart, second == 1);
             pair_row(t, count, second, q, start, began, place, v, sums)
@@ -275,9 +271,9 @@ pub fn last_tri(
     let mut c = from;
     let mut run = weight;
     while c < count {
-        let v = run * weight_of(t, c);
+        let v = weighed(t, c, run);
         let value = crate::steps::mix(share(t, c, 2), share(t, c, 3), net.a, net.b, net.c);
-        limbs::settle(sums, s + key(t, c), v, value);
+        limbs::settle(sums, placed(t, c, s), v, value);
         run = closed;
         c += 1;
     }
@@ -307,8 +303,8 @@ fn pair_tri(
     let mut n: u64 = 0;
     while c < count {
         let q = crate::steps::six_three(net, share(t, c, 2), share(t, c, 3));
-        let place = s + key(t, c);
-        let v = w * weight_of(t, c);
+        let place = placed(t, c, s);
+        let v = weighed(t, c, w);
         let m = last_tri(t, count, q, c, b, place, v, sums);
         n += 3 + m;
         w = closed;
@@ -344,8 +340,8 @@ pub fn gather_tri(
     while c < count {
         let x = share(t, c, 2);
         let y = share(t, c, 3);
-        let place = s + key(t, c);
-        let v = w * weight_of(t, c);
+        let place = placed(t, c, s);
+        let v = weighed(t, c, w);
         let m = if left == 3 {
             let q = crate::steps::tri_six(net, x, y);
             pair_tri(t, count, q, c, b, place, v, sums)

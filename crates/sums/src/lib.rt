@@ -9,18 +9,19 @@ ghost use mathlib.Core.List.{[], _∷_};
 ghost use Prim.Native.Nat.{_+_, _*_, _^_, _≤_, _<_};
 ghost use lib.IntN.{pos, natAbs};
 ghost use lib.Dec.{eqb, ltb};
-ghost use lib.ListN.{length, getD, set, replicate};
+ghost use lib.ListN.{length, getD, replicate};
 ghost use lib.Seq.{sets};
 ghost use Rattle.limbs.specs.Limbs.{Gained};
 ghost use Rattle.request.specs.Head.{numbers};
 ghost use Rattle.request.specs.Refusal.{notDegree, valuePlace};
 ghost use Rattle.net.specs.Sizes.{GoodPath, Composable};
 ghost use Rattle.sums.specs.steps.Layout.{boxed};
+ghost use Rattle.sums.specs.steps.Few.{inThree};
 ghost use Rattle.sums.specs.gather.Table.{Inside, Even};
 ghost use Rattle.sums.specs.gather.Owed.{ofGroup, owing, duty, Ready};
 ghost use Rattle.sums.specs.gather.Formed.{Counted};
 ghost use Rattle.sums.specs.Filled.{termNumbers, Filled};
-ghost use Rattle.sums.specs.Loaded.{stacked, LoadedBox, LoadedTriangle};
+ghost use Rattle.sums.specs.Loaded.{readThree, stacked, LoadedBox, LoadedTriangle};
 ghost use Rattle.sums.specs.Contract.{places, Summed, Formed};
 use crate::steps::Three;
 use crate::steps::Two;
@@ -53,24 +54,16 @@ fn beside(path: &[i32], per: usize, c: usize) -> u64
     units::path_size_at(path, per * c + 1)
 }
 
-fn store(t: &mut [u32; 40], k: usize, x: u64)
-    requires { ⌜ (k < 40) × (x < 2 ^ 32) ⌝ }
-    ensures { λ _. ⌜ now (t .exit) ≡ set (now (t .entry)) k x ⌝ }
-{
-    let v = x as u32;
-    t[k] = v;
-}
-
 // Stores term c, of a ride or of a patch.
 pub fn store_term(t: &mut [u32; 40], c: usize, key: u64, weight: u64, a: u64, b: u64)
     requires { ⌜ (c < 10) × (key < 2 ^ 32) × (weight < 2 ^ 32) × (a ≤ 1024) × (b ≤ 1024) ⌝ }
     ensures { λ _. ⌜ now (t .exit) ≡ sets (now (t .entry)) (4 * c) (termNumbers key weight a b) ⌝ }
 {
     let k = 4 * c;
-    store(t, k, key);
-    store(t, k + 1, weight);
-    store(t, k + 2, a);
-    store(t, k + 3, b);
+    t[k] = key as u32;
+    t[k + 1] = weight as u32;
+    t[k + 2] = a as u32;
+    t[k + 3] = b as u32;
 }
 
 // The terms of a ride: point c weighs N over c, its key is its number.
@@ -98,55 +91,49 @@ fn travel(surface: &[i32], i: usize) -> Num
     units::units_of(units::travel_at(surface, i))
 }
 
+// Control values a, b and c.
+fn travels(surface: &[i32], a: usize, b: usize, c: usize) -> Three
+    ensures { λ r. ⌜ inThree r ≡ readThree (now (surface .entry)) a b c ⌝ }
+{
+    let a = travel(surface, a);
+    let b = travel(surface, b);
+    let c = travel(surface, c);
+    Three { a, b, c }
+}
+
 // A rectangle has nine numbers at most, in the request's own order.
 fn load_box(surface: &[i32]) -> [i64; 15]
     requires { ⌜ valuePlace (now surface) ≡ length (now surface) ⌝ }
     ensures { λ n. ⌜ LoadedBox (now (surface .entry)) n ⌝ }
 {
-    let mut net = [0i64; 15];
-    crate::steps::put(&mut net, 0, travel(surface, 0));
-    crate::steps::put(&mut net, 1, travel(surface, 1));
-    crate::steps::put(&mut net, 2, travel(surface, 2));
-    crate::steps::put(&mut net, 3, travel(surface, 3));
-    crate::steps::put(&mut net, 4, travel(surface, 4));
-    crate::steps::put(&mut net, 5, travel(surface, 5));
-    crate::steps::put(&mut net, 6, travel(surface, 6));
-    crate::steps::put(&mut net, 7, travel(surface, 7));
-    crate::steps::put(&mut net, 8, travel(surface, 8));
-    net
+    let p = travels(surface, 0, 1, 2);
+    let q = travels(surface, 3, 4, 5);
+    let r = travels(surface, 6, 7, 8);
+    let none = crate::steps::none();
+    crate::steps::net_of(p, q, r, none, none)
 }
 
-// A triangle of degree n, diagonal by diagonal.
+// A triangle of degree n, diagonal by diagonal: its rows begin at 0, n + 1, 2n + 1, 3n, and of degree 4 at 14.
 fn load_tri(surface: &[i32], n: usize) -> [i64; 15]
     requires { ⌜ (valuePlace (now surface) ≡ length (now surface)) × (1 < n) × (n ≤ 4) ⌝ }
     ensures { λ q. ⌜ LoadedTriangle (now (surface .entry)) n q ⌝ }
 {
-    let one = n + 1;
-    let two = one + n;
-    let mut net = [0i64; 15];
-    crate::steps::put(&mut net, 0, travel(surface, 0));
-    crate::steps::put(&mut net, 1, travel(surface, 1));
-    crate::steps::put(&mut net, 2, travel(surface, one));
-    crate::steps::put(&mut net, 3, travel(surface, 2));
-    crate::steps::put(&mut net, 4, travel(surface, one + 1));
-    crate::steps::put(&mut net, 5, travel(surface, two));
+    let two = 2 * n;
+    let p = travels(surface, 0, 1, n + 1);
+    let q = travels(surface, 2, n + 2, two + 1);
+    let none = crate::steps::none();
     if n < 3 {
-        return net;
+        return crate::steps::net_of(p, q, none, none, none);
     }
-    let three = two + n - 1;
-    crate::steps::put(&mut net, 6, travel(surface, 3));
-    crate::steps::put(&mut net, 7, travel(surface, one + 2));
-    crate::steps::put(&mut net, 8, travel(surface, two + 1));
-    crate::steps::put(&mut net, 9, travel(surface, three));
+    let r = travels(surface, 3, n + 3, two + 2);
+    let a = travel(surface, 3 * n);
     if n < 4 {
-        return net;
+        return crate::steps::net_of(p, q, r, crate::steps::alone(a), none);
     }
-    crate::steps::put(&mut net, 10, travel(surface, 4));
-    crate::steps::put(&mut net, 11, travel(surface, one + 3));
-    crate::steps::put(&mut net, 12, travel(surface, two + 2));
-    crate::steps::put(&mut net, 13, travel(surface, three + 1));
-    crate::steps::put(&mut net, 14, travel(surface, three + 2));
-    net
+    let b = travel(surface, 4);
+    let c = travel(surface, 8);
+    let last = travels(surface, 11, 13, 14);
+    crate::steps::net_of(p, q, r, Three { a, b, c }, last)
 }
 
 // ---- the sum
@@ -188,11 +175,7 @@ pub fn triangle(t: &[u32; 40], count: usize, surface: &[i32], r: usize, sums: &m
         (duty (now (t .entry)) count 0 0 r 0 r 1) ⌝ }
 {
     if r == 1 {
-        let net = Three {
-            a: travel(surface, 0),
-            b: travel(surface, 1),
-            c: travel(surface, 2),
-        };
+        let net = travels(surface, 0, 1, 2);
         return crate::gather::last_tri(t, count, net, 0, 1, 0, 1, sums);
     }
     let net = load_tri(surface, r);

@@ -2,9 +2,10 @@
 // by diagonals for form 3, a triangle (specs/Layout.antt). Two products at most for a number; nothing here is about rides.
 ghost use mathlib.Core.Path.{_≡_};
 ghost use mathlib.Core.Bool.{cond};
+ghost use mathlib.Core.List.{[], _∷_, _++_};
 ghost use Prim.Native.Nat.{ℕ, _+_, _*_, _^_, _≤_, _<_};
 ghost use lib.IntN.{pos, natAbs, _-ℤ_, _*ℤ_};
-ghost use lib.ListN.{getD, set};
+ghost use lib.ListN.{getD};
 ghost use Rattle.sums.specs.steps.Stepped.{between, among, Slid, Lowered, Small};
 ghost use Rattle.sums.specs.steps.Few.{inTwo, inFour, inThree, inSix};
 use whole::Num;
@@ -46,12 +47,42 @@ fn at(p: &[i64; 15], k: usize) -> Num
     Num(p[k])
 }
 
-pub fn put(p: &mut [i64; 15], k: usize, x: Num)
-    requires { ⌜ k < 15 ⌝ }
-    ensures { λ _. ⌜ now (p .exit) ≡ set (now (p .entry)) k (x .0) ⌝ }
+// A number and two zeros.
+pub fn alone(a: Num) -> Three
+    ensures { λ r. ⌜ inThree r ≡ a .0 ∷ pos 0 ∷ pos 0 ∷ [] ⌝ }
 {
-    let v = x.0;
-    p[k] = v;
+    let b = whole::plus(0);
+    Three { a, b, c: b }
+}
+
+// Three zeros.
+pub fn none() -> Three
+    ensures { λ r. ⌜ inThree r ≡ pos 0 ∷ pos 0 ∷ pos 0 ∷ [] ⌝ }
+{
+    alone(whole::plus(0))
+}
+
+// A net, three by three.
+pub fn net_of(p: Three, q: Three, r: Three, s: Three, t: Three) -> [i64; 15]
+    ensures { λ n. ⌜ n ≡ inThree p ++ inThree q ++ inThree r ++ inThree s ++ inThree t ⌝ }
+{
+    [
+        p.a.0,
+        p.b.0,
+        p.c.0,
+        q.a.0,
+        q.b.0,
+        q.c.0,
+        r.a.0,
+        r.b.0,
+        r.c.0,
+        s.a.0,
+        s.b.0,
+        s.c.0,
+        t.a.0,
+        t.b.0,
+        t.c.0,
+    ]
 }
 
 // A share of a number.
@@ -83,8 +114,7 @@ pub fn mix(x: u64, y: u64, p: Num, q: Num, r: Num) -> Num
     requires { ⌜ (x + y ≤ 1024) × (natAbs (p .0) ≤ 2 ^ 42) × (natAbs (q .0) ≤ 2 ^ 42) × (natAbs (r .0) ≤ 2 ^ 42) ⌝ }
     ensures { λ n. ⌜ n .0 ≡ among x y (p .0) (q .0) (r .0) ⌝ }
 {
-    let first = whole::sum(share(1024, p), share(x, less(r, p)));
-    whole::sum(first, share(y, less(q, p)))
+    whole::sum(toward(x, p, r), share(y, less(q, p)))
 }
 
 // Number k of the rectangle that s makes; gap is how far apart neighbours are.
@@ -100,17 +130,18 @@ pub fn slid(p: &[i64; 15], s: u64, gap: usize, count: usize) -> [i64; 15]
     requires { ⌜ (s ≤ 1024) × (gap ≤ 5) × (count ≤ 6) × Small (now p) (2 ^ 42) ⌝ }
     ensures { λ q. ⌜ Slid (now (p .entry)) s gap count q ⌝ }
 {
-    let mut q = [0i64; 15];
-    put(&mut q, 0, slide(p, s, gap, 0));
-    put(&mut q, 1, slide(p, s, gap, 1));
-    put(&mut q, 2, slide(p, s, gap, 2));
-    put(&mut q, 3, slide(p, s, gap, 3));
+    let a = slide(p, s, gap, 0);
+    let b = slide(p, s, gap, 1);
+    let c = slide(p, s, gap, 2);
+    let first = Three { a, b, c };
+    let a = slide(p, s, gap, 3);
+    let none = none();
     if count < 5 {
-        return q;
+        return net_of(first, alone(a), none, none, none);
     }
-    put(&mut q, 4, slide(p, s, gap, 4));
-    put(&mut q, 5, slide(p, s, gap, 5));
-    q
+    let b = slide(p, s, gap, 4);
+    let c = slide(p, s, gap, 5);
+    net_of(first, Three { a, b, c }, none, none, none)
 }
 
 // A rectangle of two numbers.
@@ -172,18 +203,17 @@ pub fn lowered(p: &[i64; 15], x: u64, y: u64) -> [i64; 15]
     requires { ⌜ (x + y ≤ 1024) × Small (now p) (2 ^ 42) ⌝ }
     ensures { λ q. ⌜ Lowered (now (p .entry)) x y 4 q ⌝ }
 {
-    let mut q = [0i64; 15];
-    put(&mut q, 0, tri(p, x, y, 0, 1));
-    put(&mut q, 1, tri(p, x, y, 1, 3));
-    put(&mut q, 2, tri(p, x, y, 2, 4));
-    put(&mut q, 3, tri(p, x, y, 3, 6));
-    put(&mut q, 4, tri(p, x, y, 4, 7));
-    put(&mut q, 5, tri(p, x, y, 5, 8));
-    put(&mut q, 6, tri(p, x, y, 6, 10));
-    put(&mut q, 7, tri(p, x, y, 7, 11));
-    put(&mut q, 8, tri(p, x, y, 8, 12));
-    put(&mut q, 9, tri(p, x, y, 9, 13));
-    q
+    let a = tri_three(p, x, y);
+    let d = tri(p, x, y, 3, 6);
+    let e = tri(p, x, y, 4, 7);
+    let f = tri(p, x, y, 5, 8);
+    let g = tri(p, x, y, 6, 10);
+    let h = tri(p, x, y, 7, 11);
+    let i = tri(p, x, y, 8, 12);
+    let j = tri(p, x, y, 9, 13);
+    let b = Three { a: d, b: e, c: f };
+    let c = Three { a: g, b: h, c: i };
+    net_of(a, b, c, alone(j), none())
 }
 
 // A triangle of three numbers.

@@ -84,29 +84,29 @@ module _ (t : List ℕ) (count outer second left from begun s weight : ℕ) (sum
       all-done h = Turning.all-done (readAt t count second left) s p t count (ready .most) _ _ _ from begun weight sums (ready .able) _ fewer closed c
           b w now f h
 
-      module _ (h : c < count) (k u : ℕ) (ke : k ≡ keyAt t c) (ue : u ≡ weightAt t c) where
-        able : Able t count (ready .most) (groupAt outer second left) (restAt t count second left) (ofGroup second left - 1) c b (w * u) now
+      module _ (h : c < count) where
+        able : Able t count (ready .most) (groupAt outer second left) (restAt t count second left) (ofGroup second left - 1) c b (w * weightAt t c) now
         able =
-            rw ue
-            (Turning.next-able (readAt t count second left) s p t count (ready .most) _ _ _ from begun weight sums (ready .able) _ fewer closed c b w now f h)
+            Turning.next-able (readAt t count second left) s p t count (ready .most) _ _ _ from begun weight sums (ready .able) _ fewer closed c b w now f h
 
-        pub next-small : w * u ≤ 2 ^ 24
+        pub next-small : w * weightAt t c ≤ 2 ^ 24
         next-small = Turning.able-small _ _ _ _ _ _ _ _ _ _ able
 
-        pub place : 2 * (s + k + l * ready .most) + 1 < length now
+        pub place : 2 * (s + keyAt t c + l * ready .most) + 1 < length now
         place =
             let r = ready .places in
             let n : left * ready .most ≡ l * ready .most + ready .most = rw e (suc-mul l (ready .most)) in
             omega (arith, ready .able .good .keys c h, f .toward .long)
 
-        module _ (turn : Bool) (te : turn ≡ eqb l second) (start began : ℕ) (se : start ≡ cond turn 0 c) (be : began ≡ cond turn second b) where
-          pub next-ready : Ready t count outer second l start began (s + k) (w * u) now
+        module _ (k v : ℕ) (ke : k ≡ s + keyAt t c) (ve : v ≡ w * weightAt t c) (turn : Bool) (te : turn ≡ eqb l second) (start began : ℕ)
+            (se : start ≡ cond turn 0 c) (be : began ≡ cond turn second b) where
+          pub next-ready : Ready t count outer second l start began k v now
           next-ready = record {
             most = ready .most;
-            able = rw (se, be) (next-able t count outer second l turn te (ready .second-few) (ready .most) c b (w * u) now (rw e at able));
+            able = rw (se, be, ve) (next-able t count outer second l turn te (ready .second-few) (ready .most) c b (w * weightAt t c) now (rw e at able));
             total = let m = ready .total in omega arith;
             second-few = ready .second-few;
-            places = place;
+            places = rw ke place;
           }
 
           -- what the next argument added, from a net that owes what this argument's step owes
@@ -114,16 +114,17 @@ module _ (t : List ℕ) (count outer second left from begun s weight : ℕ) (sum
               → ((a b x y R : ℕ) → owing t count outer second l a b x y q R ≡ owing t count outer second l a b x y
               (step (termOf t (groupAt outer second (suc l)) c .argument) p) R)
               → (here : ℕ) → here ≡ ofGroup second left → (then : List ℤ)
-              → Gained now then (owing t count outer second l start began (s + k) (w * u) q) (duty t count outer second l start began (w * u))
+              → Gained now then (owing t count outer second l start began k v q) (duty t count outer second l start began v)
               → Loop closed (c + 1) here closed then
           one-more q same here he then gained =
               rw he
               (Turning.one-more (readAt t count second left) s p t count (ready .most) _ _ _ from begun weight sums (ready .able) _ fewer closed c b w
               now f h then
-              (rw (← ke, ← ue, e) (gained-as
-              (λ R. bridge t count outer second l turn te c b (s + k) (w * u) (step (termOf t (groupAt outer second (suc l)) c .argument) p) R)
-              (bridge-due t count outer second l turn te c b (w * u))
-              (rw (se, be) at (gained-as (same start began (s + k) (w * u)) (λ i. duty t count outer second l start began (w * u)) gained)))))
+              (rw e (gained-as
+              (λ R. bridge t count outer second l turn te c b (s + keyAt t c) (w * weightAt t c)
+              (step (termOf t (groupAt outer second (suc l)) c .argument) p) R)
+              (bridge-due t count outer second l turn te c b (w * weightAt t c))
+              (rw (se, be, ke, ve) at (gained-as (same start began k v) (λ i. duty t count outer second l start began v) gained)))))
 
 -- ---- the last argument: since when its run is open no longer matters
 pub one-of : (t : List ℕ) (count outer second : ℕ) → ofGroup second 1 ≡ 1
@@ -150,29 +151,30 @@ module _ (t : List ℕ) (count outer second from begun s weight : ℕ) (sums : L
     pub last-done : count ≤ c → Gained sums now (owing t count outer second 1 from begun s weight p) (duty t count outer second 1 from begun weight)
     last-done h = all-done t count outer second 1 from begun s weight sums ready p 0 refl closed c (f .since) w now (f .sofar) h
 
-    module _ (h : c < count) (k u : ℕ) (ke : k ≡ keyAt t c) (ue : u ≡ weightAt t c) where
-      pub last-small : w * u ≤ 2 ^ 24
-      last-small = next-small t count outer second 1 from begun s weight sums ready p 0 refl closed c (f .since) w now (f .sofar) h k u ke ue
+    module _ (h : c < count) where
+      pub last-small : w * weightAt t c ≤ 2 ^ 24
+      last-small = next-small t count outer second 1 from begun s weight sums ready p 0 refl closed c (f .since) w now (f .sofar) h
 
       abbrev anew : Bool
       anew = eqb 0 second
 
-      settling : Ready t count outer second 0 (cond anew 0 c) (cond anew second (f .since)) (s + k) (w * u) now
-      settling = next-ready t count outer second 1 from begun s weight sums ready p 0 refl closed c (f .since) w now (f .sofar) h k u ke ue anew refl
-          _ _ refl refl
+      module _ (k v : ℕ) (ke : k ≡ s + keyAt t c) (ve : v ≡ w * weightAt t c) where
+        settling : Ready t count outer second 0 (cond anew 0 c) (cond anew second (f .since)) k v now
+        settling = next-ready t count outer second 1 from begun s weight sums ready p 0 refl closed c (f .since) w now (f .sofar) h k v ke ve anew refl
+            _ _ refl refl
 
-      pub last-asks : (2 * (s + k) + 1 < length now) × Room now (w * u)
-      last-asks = settle-asks t count outer second (cond anew 0 c) (cond anew second (f .since)) (s + k) (w * u) now settling
+        pub last-asks : (2 * k + 1 < length now) × Room now v
+        last-asks = settle-asks t count outer second (cond anew 0 c) (cond anew second (f .since)) k v now settling
 
-      pub last-more : (q : Net)
-          → ((a b x y R : ℕ) → owing t count outer second 0 a b x y q R ≡ owing t count outer second 0 a b x y
-          (step (termOf t (groupAt outer second 1) c .argument) p) R)
-          → (v : ℤ) → v ≡ q 0 0 → (then : List ℤ) → Gained now then (only (s + k) (pos (w * u) *ℤ v)) (w * u)
-          → Ending t count outer second from begun s weight sums p closed (c + 1) closed then
-      last-more q same v e then gained = record {
-        since = 1;
-        sofar =
-            one-more t count outer second 1 from begun s weight sums ready p 0 refl closed c (f .since) w now (f .sofar) h k u ke ue anew refl _ _ refl refl
-            q same 1 (sym (one-of t count outer second)) then
-            (settle-done t count outer second (cond anew 0 c) (cond anew second (f .since)) (s + k) (w * u) now q v e then gained);
-      }
+        pub last-more : (q : Net)
+            → ((a b x y R : ℕ) → owing t count outer second 0 a b x y q R ≡ owing t count outer second 0 a b x y
+            (step (termOf t (groupAt outer second 1) c .argument) p) R)
+            → (z : ℤ) → z ≡ q 0 0 → (then : List ℤ) → Gained now then (only k (pos v *ℤ z)) v
+            → Ending t count outer second from begun s weight sums p closed (c + 1) closed then
+        last-more q same z e then gained = record {
+          since = 1;
+          sofar =
+              one-more t count outer second 1 from begun s weight sums ready p 0 refl closed c (f .since) w now (f .sofar) h k v ke ve anew refl _ _ refl refl
+              q same 1 (sym (one-of t count outer second)) then
+              (settle-done t count outer second (cond anew 0 c) (cond anew second (f .since)) k v now q z e then gained);
+        }

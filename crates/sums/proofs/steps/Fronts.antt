@@ -1,6 +1,6 @@
 -- An array written from the front: n numbers, and then zeros. Assumes nothing.
-use mathlib.Core.Path.{_≡_, refl}
-use mathlib.Core.List.{List, _∷_}
+use mathlib.Core.Path.{_≡_, refl, _∙_}
+use mathlib.Core.List.{List, [], _∷_, _++_}
 use Prim.Native.Nat.{ℕ, zero, suc, _≤_, _<_}
 use native.Mathlib.Nat.{not-suc-le-zero, le-of-suc-le-suc}
 use native.Mathlib.Decide.{decLt}
@@ -34,3 +34,11 @@ front-small n m f bound each = record { most = λ k. go k (decLt k n) }
     go : (k : ℕ) → Dec (k < n) → natAbs (getD (front n m f) k (pos 0)) ≤ bound
     go k (yes h) = rw (in-front n m f k h) (each k)
     go k (no h) = rw (behind n m f k (omega arith)) (omega arith)
+
+-- numbers that are known, and an array of five parts that are
+pub by-three : {a a′ b b′ c c′ : ℤ} → a ≡ a′ → b ≡ b′ → c ≡ c′ → a ∷ b ∷ c ∷ [] ≡ a′ ∷ b′ ∷ c′ ∷ []
+by-three a b c = rw (a, b, c)
+
+pub by-five : {l p p′ q q′ r r′ s s′ t t′ : List ℤ} → l ≡ p ++ q ++ r ++ s ++ t → p ≡ p′ → q ≡ q′ → r ≡ r′ → s ≡ s′ → t ≡ t′
+    → l ≡ p′ ++ q′ ++ r′ ++ s′ ++ t′
+by-five e a b c d f = e ∙ rw (a, b, c, d, f)

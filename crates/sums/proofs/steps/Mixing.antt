@@ -40,12 +40,13 @@ between-most s p q M h a b =
 beyond : (X Y Z a b c : ℤ) → (X ⊕ Y ⊕ Z) ⊗ c ⊕ X ⊗ (a ⊖ c) ⊕ Y ⊗ (b ⊖ c) ≡ X ⊗ a ⊕ Y ⊗ b ⊕ Z ⊗ c
 beyond X Y Z a b c = simp subs (sym (is-sub _ _ _ (simp ring)))
 
-pub among-again : (x y : ℕ) (p q r : ℤ) → x + y ≤ 1024 → pos 1024 *ℤ p +ℤ pos x *ℤ (r -ℤ p) +ℤ pos y *ℤ (q -ℤ p) ≡ among x y p q r
+pub among-again : (x y : ℕ) (p q r : ℤ) → x + y ≤ 1024 → between x p r +ℤ pos y *ℤ (q -ℤ p) ≡ among x y p q r
 unfolding among _⊕_ _⊗_ _⊖_
 among-again x y p q r h =
     let e : 1024 ≡ x + y + (1024 - x - y) = omega arith in
     let z : pos 1024 ≡ pos x ⊕ pos y ⊕ pos (1024 - x - y) = ap pos e ∙ pos-add (x + y) (1024 - x - y) ∙ ap (λ n. n ⊕ pos (1024 - x - y)) (pos-add x y) in
-    ap (λ n. n *ℤ p +ℤ pos x *ℤ (r -ℤ p) +ℤ pos y *ℤ (q -ℤ p)) z ∙ beyond (pos x) (pos y) (pos (1024 - x - y)) r q p
+    ap (λ n. n +ℤ pos y *ℤ (q -ℤ p)) (sym (between-again x p r))
+    ∙ ap (λ n. n *ℤ p +ℤ pos x *ℤ (r -ℤ p) +ℤ pos y *ℤ (q -ℤ p)) z ∙ beyond (pos x) (pos y) (pos (1024 - x - y)) r q p
 
 pub among-most : (x y : ℕ) (p q r : ℤ) (M : ℕ) → x + y ≤ 1024 → natAbs p ≤ M → natAbs q ≤ M → natAbs r ≤ M → natAbs (among x y p q r) ≤ 1024 * M
 unfolding among

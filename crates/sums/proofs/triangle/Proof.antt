@@ -6,24 +6,18 @@ use Rattle.sums.proofs.Starting.{few-small, loaded-small, three-done, t
 use Rattle.sums.proofs.triangle.Statement.{statement}
 use Rattle.sums.proofs.triangle.Tie as tie
 
-travel-requires : tie.Need-travel-requires
-travel-requires c κs = search needs
-
-travel-requires-2 : tie.Need-travel-requires-2
-travel-requires-2 c κs = search needs
-
-travel-requires-3 : tie.Need-travel-requires-3
-travel-requires-3 c κs = search needs
+travels-requires : tie.Need-travels-requires
+travels-requires c κs = search needs
 
 last-tri-requires : tie.Need-last-tri-requires
 unfolding front
 last-tri-requires c κs =
     let b = c .before in
-    let i = b .before .before .before in
+    let i = b .before in
     let p = i .before .pre in (
       rw (i .if1 .taken) at (p .1),
       p .2,
-      rw (b .before .before .travel .ensures, b .before .travel2 .ensures, b .travel3 .ensures)
+      rw (b .travels .ensures)
           (few-small (i .before .args .surface .now) 3 1 (p .3) (omega arith)),
     )
 
@@ -34,9 +28,9 @@ returns : tie.Need-returns
 unfolding front
 returns c =
     let b = c .before .before .before in
-    let i = b .before .before .before in
+    let i = b .before in
     three-done _ _ _ _ (i .before .args .surface .now) _ _ (i .if1 .taken)
-    (rw (b .before .before .travel .ensures, b .before .travel2 .ensures, b .travel3 .ensures) at (c .before .last-tri .ensures))
+    (rw (b .travels .ensures) at (c .before .last-tri .ensures))
 
 load-tri-requires : tie.Need-load-tri-requires
 load-tri-requires c κs = let p = c .before .pre in (p .3, let some = p .0 in let more = c .if1 .left in omega arith, p .1 .total)
@@ -65,9 +59,7 @@ pub triangle-spec : {M : Type 1} → statement M
 triangle-spec =
     tie.close
     (tie.spec
-    travel-requires
-    travel-requires-2
-    travel-requires-3
+    travels-requires
     last-tri-requires
     same-length
     returns

@@ -30,8 +30,8 @@ use Rattle.sums.proofs.gather.gap.Reads as gap-reads
 use Rattle.sums.proofs.gather.arrangements.Reads as arrangements-reads
 use Rattle.sums.proofs.gather.share.Reads as share-reads
 use Rattle.sums.proofs.gather.chosen.Reads as chosen-reads
-use Rattle.sums.proofs.gather.key.Reads as key-reads
-use Rattle.sums.proofs.gather.weight_of.Reads as weight-of-reads
+use Rattle.sums.proofs.gather.placed.Reads as placed-reads
+use Rattle.sums.proofs.gather.weighed.Reads as weighed-reads
 use Rattle.sums.proofs.steps.row_four.Reads as row-four-reads
 use Rattle.sums.proofs.gather.pair_row.Reads as pair-row-reads
 use Rattle.sums.proofs.steps.row_two.Reads as row-two-reads
@@ -63,10 +63,10 @@ callees t = (
   share-reads.Learnt,
   chosen-reads.Asked,
   chosen-reads.Learnt,
-  key-reads.Asked,
-  key-reads.Learnt,
-  weight-of-reads.Asked,
-  weight-of-reads.Learnt,
+  placed-reads.Asked,
+  placed-reads.Learnt,
+  weighed-reads.Asked,
+  weighed-reads.Learnt,
   row-four-reads.Asked,
   row-four-reads.Learnt,
   pair-row-reads.Asked,
@@ -97,7 +97,7 @@ abbrev first : (t : ℕ) → gather-row-lts.In-loop (callees t) (gather-row-at t
     → gather-row-lts.Start (callees t) (gather-row-at t) gather-row.Post gather-row-Inv-loop gather-row-μ-loop
 first t i = i .before .before .before .before .before .before
 
-abbrev turning : (t : ℕ) → gather-row-lts.After-weight-of (callees t) (gather-row-at t) gather-row.Post gather-row-Inv-loop gather-row-μ-loop
+abbrev turning : (t : ℕ) → gather-row-lts.After-weighed (callees t) (gather-row-at t) gather-row.Post gather-row-Inv-loop gather-row-μ-loop
     → gather-row-lts.In-loop (callees t) (gather-row-at t) gather-row.Post gather-row-Inv-loop gather-row-μ-loop
 turning t v = v .before .before .before .before .before
 
@@ -160,28 +160,22 @@ gather-row-chosen-requires-2 : (t : ℕ)
     → gather-row-lts.Need-chosen-requires-2 (callees t) (gather-row-at t) gather-row.Post gather-row-Inv-loop gather-row-μ-loop
 gather-row-chosen-requires-2 t c κs = search needs
 
-gather-row-key-requires : (t : ℕ) → gather-row-lts.Need-key-requires (callees t) (gather-row-at t) gather-row.Post gather-row-Inv-loop gather-row-μ-loop
-gather-row-key-requires t c κs = let n = first t (c .before .before .before) .pre .1 .1 .able .good .few in omega arith
-
-gather-row-add-place : (t : ℕ) → gather-row-lts.Need-add-place (callees t) (gather-row-at t) gather-row.Post gather-row-Inv-loop gather-row-μ-loop
-gather-row-add-place t c =
-    let i = c .before .before .before .before in
-    let p = place _ _ _ _ _ _ _ _ _ _ (first t i .pre .1 .1) _ _ (fewer t i) _ _ _ _ _ (i .before .loop .inv .2) (i .loop-test .taken) _ _
-    (c .key .ensures) refl in
+gather-row-placed-requires : (t : ℕ) → gather-row-lts.Need-placed-requires (callees t) (gather-row-at t) gather-row.Post gather-row-Inv-loop gather-row-μ-loop
+gather-row-placed-requires t c κs =
+    let i = c .before .before .before in
+    let n = first t i .pre .1 .1 .able .good .few in
+    let p = place _ _ _ _ _ _ _ _ _ _ (first t i .pre .1 .1) _ _ (fewer t i) _ _ _ _ _ (i .before .loop .inv .2) (i .loop-test .taken) in
     let long = i .before .loop .inv .2 .toward .long in
     let q = first t i .good .1 .1 .1 .1 .1 .1 .1 .1 .1 .0 in
-    omega arith
+    (omega arith, omega arith)
 
-gather-row-weight-of-requires : (t : ℕ)
-    → gather-row-lts.Need-weight-of-requires (callees t) (gather-row-at t) gather-row.Post gather-row-Inv-loop gather-row-μ-loop
-gather-row-weight-of-requires t c κs = let n = first t (c .before .before .before .before) .pre .1 .1 .able .good .few in omega arith
-
-gather-row-mul-v : (t : ℕ) → gather-row-lts.Need-mul-v (callees t) (gather-row-at t) gather-row.Post gather-row-Inv-loop gather-row-μ-loop
-gather-row-mul-v t c =
-    let i = c .before .before .before .before .before in
-    let p = next-small _ _ _ _ _ _ _ _ _ _ (first t i .pre .1 .1) _ _ (fewer t i) _ _ _ _ _ (i .before .loop .inv .2) (i .loop-test .taken) _ _
-    (c .before .key .ensures) (c .weight-of .ensures) in
-    omega arith
+gather-row-weighed-requires : (t : ℕ)
+    → gather-row-lts.Need-weighed-requires (callees t) (gather-row-at t) gather-row.Post gather-row-Inv-loop gather-row-μ-loop
+gather-row-weighed-requires t c κs =
+    let i = c .before .before .before .before in
+    let n = first t i .pre .1 .1 .able .good .few in
+    let p = next-small _ _ _ _ _ _ _ _ _ _ (first t i .pre .1 .1) _ _ (fewer t i) _ _ _ _ _ (i .before .loop .inv .2) (i .loop-test .taken) in
+    (omega arith, omega arith)
 
 gather-row-row-four-requires : (t : ℕ)
     → gather-row-lts.Need-row-four-requires (callees t) (gather-row-at t) gather-row.Post gather-row-Inv-loop gather-row-μ-loop
@@ -203,7 +197,7 @@ gather-row-pair-row-requires t c κs =
     let v = c .before .before .before in
     let i = turning t v in (
       next-ready _ _ _ _ _ _ _ _ _ _ (first t i .pre .1 .1) _ 2 e _ _ _ _ _ (i .before .loop .inv .2) (i .loop-test .taken) _ _
-          (v .before .key .ensures) (v .weight-of .ensures) _ (ap (λ n. eqb (n - 1) (first t i .args .second)) e) _ _
+          (v .before .placed .ensures) (v .weighed .ensures) _ (ap (λ n. eqb (n - 1) (first t i .args .second)) e) _ _
           (v .before .before .before .chosen .ensures) (v .before .before .chosen2 .ensures),
       first t i .pre .1 .2,
       small-up _ 2 (omega arith) (q .most (entryMost 3) (re-small e (first t i .pre .1 .3))),
@@ -228,7 +222,7 @@ gather-row-last-row-requires t c κs =
     let v = c .before .before .before .before in
     let i = turning t v in (
       next-ready _ _ _ _ _ _ _ _ _ _ (first t i .pre .1 .1) _ 1 e _ _ _ _ _ (i .before .loop .inv .2) (i .loop-test .taken) _ _
-          (v .before .key .ensures) (v .weight-of .ensures) _ (ap (λ n. eqb (n - 1) (first t i .args .second)) e) _ _
+          (v .before .placed .ensures) (v .weighed .ensures) _ (ap (λ n. eqb (n - 1) (first t i .args .second)) e) _ _
           (v .before .before .before .chosen .ensures) (v .before .before .chosen2 .ensures),
       first t i .pre .1 .2,
       small-up _ 1 (omega arith) (q .most (entryMost 2) (re-small e (first t i .pre .1 .3))),
@@ -279,14 +273,14 @@ gather-row-gather-row-requires t c κs =
       (
         omega arith,
         next-ready _ _ _ _ _ _ _ _ _ _ (first t i .pre .1 .1) _ _ (fewer t i) _ _ _ _ _ (i .before .loop .inv .2) (i .loop-test .taken) _ _
-            (v .before .key .ensures) (v .weight-of .ensures) _ refl _ _ (v .before .before .before .chosen .ensures) (v .before .before .chosen2 .ensures),
+            (v .before .placed .ensures) (v .weighed .ensures) _ refl _ _ (v .before .before .before .chosen .ensures) (v .before .before .chosen2 .ensures),
         first t i .pre .1 .2,
         small-up _ _ (omega arith) (q .most _ (re-small (fewer t i) (first t i .pre .1 .3))),
       ),
     )
 
 -- what a turn leaves, by whichever way: the entries that it formed, and the sum so far
-abbrev Next : (t : ℕ) → gather-row-lts.After-weight-of (callees t) (gather-row-at t) gather-row.Post gather-row-Inv-loop gather-row-μ-loop → ℕ → List ℤ → Type 0
+abbrev Next : (t : ℕ) → gather-row-lts.After-weighed (callees t) (gather-row-at t) gather-row.Post gather-row-Inv-loop gather-row-μ-loop → ℕ → List ℤ → Type 0
 Next t v m sums =
     let i = turning t v in
     let a = first t i .args in
@@ -307,7 +301,7 @@ gather-row-met t c =
     rw (x .5, x .6) (
       re-counted d (x .3 .ensures .0),
       one-more _ _ _ _ _ _ _ _ _ _ (first t i .pre .1 .1) _ 2 e _ _ _ _ _ (i .before .loop .inv .2) (i .loop-test .taken) _ _
-          (v .before .key .ensures) (v .weight-of .ensures) _ (ap (λ n. eqb (n - 1) (first t i .args .second)) e) _ _
+          (v .before .placed .ensures) (v .weighed .ensures) _ (ap (λ n. eqb (n - 1) (first t i .args .second)) e) _ _
           (v .before .before .before .chosen .ensures) (v .before .before .chosen2 .ensures) (boxed _ _)
           (box-same _ _ _ 2 _ _ _ _ _ _ _ (re-group _ e (i .before .before .before .before .before .group .ensures .0))
           (v .before .before .before .before .share .ensures) (re-gap _ e (i .before .before .before .gap .ensures .0)) (size-three _) (x .1 .ensures))
@@ -320,7 +314,7 @@ gather-row-met t c =
     rw (x .6, x .7) (
       re-counted d (x .4 .ensures .0),
       one-more _ _ _ _ _ _ _ _ _ _ (first t i .pre .1 .1) _ 1 e _ _ _ _ _ (i .before .loop .inv .2) (i .loop-test .taken) _ _
-          (v .before .key .ensures) (v .weight-of .ensures) _ (ap (λ n. eqb (n - 1) (first t i .args .second)) e) _ _
+          (v .before .placed .ensures) (v .weighed .ensures) _ (ap (λ n. eqb (n - 1) (first t i .args .second)) e) _ _
           (v .before .before .before .chosen .ensures) (v .before .before .chosen2 .ensures) (boxed _ _)
           (box-same _ _ _ 1 _ _ _ _ _ _ _ (re-group _ e (i .before .before .before .before .before .group .ensures .0))
           (v .before .before .before .before .share .ensures) (re-gap _ e (i .before .before .before .gap .ensures .0)) (size-two _) (x .2 .ensures))
@@ -331,7 +325,7 @@ gather-row-met t c =
     rw (x .7, x .8) (
       x .5 .ensures .0,
       one-more _ _ _ _ _ _ _ _ _ _ (first t i .pre .1 .1) _ _ (fewer t i) _ _ _ _ _ (i .before .loop .inv .2) (i .loop-test .taken) _ _
-          (v .before .key .ensures) (v .weight-of .ensures) _ refl _ _ (v .before .before .before .chosen .ensures) (v .before .before .chosen2 .ensures)
+          (v .before .placed .ensures) (v .weighed .ensures) _ refl _ _ (v .before .before .before .chosen .ensures) (v .before .before .chosen2 .ensures)
           (boxed _ _)
           (box-same _ _ _ _ _ _ _ _ _ _ _ (re-group _ (fewer t i) (i .before .before .before .before .before .group .ensures .0))
           (v .before .before .before .before .share .ensures) (re-gap _ (fewer t i) (i .before .before .before .gap .ensures .0))
@@ -402,10 +396,8 @@ pub +gather-row-spec : {M : Type 1} → statement M
     (gather-row-share-requires t)
     (gather-row-chosen-requires t)
     (gather-row-chosen-requires-2 t)
-    (gather-row-key-requires t)
-    (gather-row-add-place t)
-    (gather-row-weight-of-requires t)
-    (gather-row-mul-v t)
+    (gather-row-placed-requires t)
+    (gather-row-weighed-requires t)
     (gather-row-row-four-requires t)
     (gather-row-pair-row-requires t)
     (gather-row-row-two-requires t)

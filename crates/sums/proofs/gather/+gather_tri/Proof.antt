@@ -28,8 +28,8 @@ use Rattle.sums.proofs.gather.+gather_tri.Lts-gather_tri as gather-tri-
 use Rattle.sums.proofs.gather.arrangements.Reads as arrangements-reads
 use Rattle.sums.proofs.gather.triangle.Reads as triangle-reads
 use Rattle.sums.proofs.gather.share.Reads as share-reads
-use Rattle.sums.proofs.gather.key.Reads as key-reads
-use Rattle.sums.proofs.gather.weight_of.Reads as weight-of-reads
+use Rattle.sums.proofs.gather.placed.Reads as placed-reads
+use Rattle.sums.proofs.gather.weighed.Reads as weighed-reads
 use Rattle.sums.proofs.steps.tri_six.Reads as tri-six-reads
 use Rattle.sums.proofs.gather.pair_tri.Reads as pair-tri-reads
 use Rattle.sums.proofs.steps.tri_three.Reads as tri-three-reads
@@ -55,10 +55,10 @@ callees t = (
   triangle-reads.Learnt,
   share-reads.Asked,
   share-reads.Learnt,
-  key-reads.Asked,
-  key-reads.Learnt,
-  weight-of-reads.Asked,
-  weight-of-reads.Learnt,
+  placed-reads.Asked,
+  placed-reads.Learnt,
+  weighed-reads.Asked,
+  weighed-reads.Learnt,
   tri-six-reads.Asked,
   tri-six-reads.Learnt,
   pair-tri-reads.Asked,
@@ -89,7 +89,7 @@ abbrev first : (t : ℕ) → gather-tri-lts.In-loop (callees t) (gather-tri-at t
     → gather-tri-lts.Start (callees t) (gather-tri-at t) gather-tri.Post gather-tri-Inv-loop gather-tri-μ-loop
 first t i = i .before .before .before .before
 
-abbrev turning : (t : ℕ) → gather-tri-lts.After-weight-of (callees t) (gather-tri-at t) gather-tri.Post gather-tri-Inv-loop gather-tri-μ-loop
+abbrev turning : (t : ℕ) → gather-tri-lts.After-weighed (callees t) (gather-tri-at t) gather-tri.Post gather-tri-Inv-loop gather-tri-μ-loop
     → gather-tri-lts.In-loop (callees t) (gather-tri-at t) gather-tri.Post gather-tri-Inv-loop gather-tri-μ-loop
 turning t v = v .before .before .before .before
 
@@ -147,28 +147,22 @@ gather-tri-share-requires t c κs = let n = first t c .pre .1 .1 .able .good .fe
 gather-tri-share-requires-2 : (t : ℕ) → gather-tri-lts.Need-share-requires-2 (callees t) (gather-tri-at t) gather-tri.Post gather-tri-Inv-loop gather-tri-μ-loop
 gather-tri-share-requires-2 t c κs = let n = first t (c .before) .pre .1 .1 .able .good .few in (omega arith, omega arith)
 
-gather-tri-key-requires : (t : ℕ) → gather-tri-lts.Need-key-requires (callees t) (gather-tri-at t) gather-tri.Post gather-tri-Inv-loop gather-tri-μ-loop
-gather-tri-key-requires t c κs = let n = first t (c .before .before) .pre .1 .1 .able .good .few in omega arith
-
-gather-tri-add-place : (t : ℕ) → gather-tri-lts.Need-add-place (callees t) (gather-tri-at t) gather-tri.Post gather-tri-Inv-loop gather-tri-μ-loop
-gather-tri-add-place t c =
-    let i = c .before .before .before in
-    let p = place _ _ _ _ _ _ _ _ _ _ (first t i .pre .1 .1) _ _ (fewer t i) _ _ _ _ _ (i .before .loop .inv .2) (i .loop-test .taken) _ _
-    (c .key .ensures) refl in
+gather-tri-placed-requires : (t : ℕ) → gather-tri-lts.Need-placed-requires (callees t) (gather-tri-at t) gather-tri.Post gather-tri-Inv-loop gather-tri-μ-loop
+gather-tri-placed-requires t c κs =
+    let i = c .before .before in
+    let n = first t i .pre .1 .1 .able .good .few in
+    let p = place _ _ _ _ _ _ _ _ _ _ (first t i .pre .1 .1) _ _ (fewer t i) _ _ _ _ _ (i .before .loop .inv .2) (i .loop-test .taken) in
     let long = i .before .loop .inv .2 .toward .long in
     let q = first t i .good .1 .1 .1 .1 .1 .1 .1 .1 .0 in
-    omega arith
+    (omega arith, omega arith)
 
-gather-tri-weight-of-requires : (t : ℕ)
-    → gather-tri-lts.Need-weight-of-requires (callees t) (gather-tri-at t) gather-tri.Post gather-tri-Inv-loop gather-tri-μ-loop
-gather-tri-weight-of-requires t c κs = let n = first t (c .before .before .before) .pre .1 .1 .able .good .few in omega arith
-
-gather-tri-mul-v : (t : ℕ) → gather-tri-lts.Need-mul-v (callees t) (gather-tri-at t) gather-tri.Post gather-tri-Inv-loop gather-tri-μ-loop
-gather-tri-mul-v t c =
-    let i = c .before .before .before .before in
-    let p = next-small _ _ _ _ _ _ _ _ _ _ (first t i .pre .1 .1) _ _ (fewer t i) _ _ _ _ _ (i .before .loop .inv .2) (i .loop-test .taken) _ _
-    (c .before .key .ensures) (c .weight-of .ensures) in
-    omega arith
+gather-tri-weighed-requires : (t : ℕ)
+    → gather-tri-lts.Need-weighed-requires (callees t) (gather-tri-at t) gather-tri.Post gather-tri-Inv-loop gather-tri-μ-loop
+gather-tri-weighed-requires t c κs =
+    let i = c .before .before .before in
+    let n = first t i .pre .1 .1 .able .good .few in
+    let p = next-small _ _ _ _ _ _ _ _ _ _ (first t i .pre .1 .1) _ _ (fewer t i) _ _ _ _ _ (i .before .loop .inv .2) (i .loop-test .taken) in
+    (omega arith, omega arith)
 
 gather-tri-tri-six-requires : (t : ℕ) → gather-tri-lts.Need-tri-six-requires (callees t) (gather-tri-at t) gather-tri.Post gather-tri-Inv-loop gather-tri-μ-loop
 gather-tri-tri-six-requires t c κs =
@@ -186,7 +180,7 @@ gather-tri-pair-tri-requires t c κs =
     let v = c .before .before .before in
     let i = turning t v in (
       next-ready _ _ _ _ _ _ _ _ _ _ (first t i .pre .1 .1) _ 2 e _ _ _ _ _ (i .before .loop .inv .2) (i .loop-test .taken) _ _
-          (v .before .key .ensures) (v .weight-of .ensures) false refl _ _ refl refl,
+          (v .before .placed .ensures) (v .weighed .ensures) false refl _ _ refl refl,
       first t i .pre .1 .2,
       small-up _ 2 (omega arith) (q .most (entryMost 3) (re-small e (first t i .pre .1 .3))),
     )
@@ -208,7 +202,7 @@ gather-tri-last-tri-requires t c κs =
     let v = c .before .before .before .before in
     let i = turning t v in (
       next-ready _ _ _ _ _ _ _ _ _ _ (first t i .pre .1 .1) _ 1 e _ _ _ _ _ (i .before .loop .inv .2) (i .loop-test .taken) _ _
-          (v .before .key .ensures) (v .weight-of .ensures) false refl _ _ refl refl,
+          (v .before .placed .ensures) (v .weighed .ensures) false refl _ _ refl refl,
       first t i .pre .1 .2,
       small-up _ 1 (omega arith) (q .most (entryMost 2) (re-small e (first t i .pre .1 .3))),
     )
@@ -240,14 +234,14 @@ gather-tri-gather-tri-requires t c κs =
       (
         omega arith,
         next-ready _ _ _ _ _ _ _ _ _ _ (first t i .pre .1 .1) _ _ (fewer t i) _ _ _ _ _ (i .before .loop .inv .2) (i .loop-test .taken) _ _
-            (v .before .key .ensures) (v .weight-of .ensures) false (none-anew _ (first t i .pre .1 .0)) _ _ refl refl,
+            (v .before .placed .ensures) (v .weighed .ensures) false (none-anew _ (first t i .pre .1 .0)) _ _ refl refl,
         first t i .pre .1 .2,
         small-up _ _ (omega arith) (q .most _ (re-small (fewer t i) (first t i .pre .1 .3))),
       ),
     )
 
 -- what a turn leaves, by whichever way: the entries that it formed, and the sum so far
-abbrev Next : (t : ℕ) → gather-tri-lts.After-weight-of (callees t) (gather-tri-at t) gather-tri.Post gather-tri-Inv-loop gather-tri-μ-loop → ℕ → List ℤ → Type 0
+abbrev Next : (t : ℕ) → gather-tri-lts.After-weighed (callees t) (gather-tri-at t) gather-tri.Post gather-tri-Inv-loop gather-tri-μ-loop → ℕ → List ℤ → Type 0
 Next t v m sums =
     let i = turning t v in
     let a = first t i .args in
@@ -268,7 +262,7 @@ gather-tri-met t c =
     rw (x .5, x .6) (
       re-counted d (x .3 .ensures .0),
       one-more _ _ _ _ _ _ _ _ _ _ (first t i .pre .1 .1) _ 2 e _ _ _ _ _ (i .before .loop .inv .2) (i .loop-test .taken) _ _
-          (v .before .key .ensures) (v .weight-of .ensures) false refl _ _ refl refl (held _)
+          (v .before .placed .ensures) (v .weighed .ensures) false refl _ _ refl refl (held _)
           (triangle-same _ _ 2 _ _ _ _ _ (let m = first t i .pre .1 .1 .total in omega arith) (v .before .before .before .share .ensures)
           (v .before .before .share2 .ensures) (x .1 .ensures))
           _ (all-of ((first t i) .args .t .now) ((first t i) .args .count) _ (let p = (first t i) .pre .1 .0 in omega arith)) _ (x .3 .ensures .1),
@@ -280,7 +274,7 @@ gather-tri-met t c =
     rw (x .6, x .7) (
       re-counted d (x .4 .ensures .0),
       one-more _ _ _ _ _ _ _ _ _ _ (first t i .pre .1 .1) _ 1 e _ _ _ _ _ (i .before .loop .inv .2) (i .loop-test .taken) _ _
-          (v .before .key .ensures) (v .weight-of .ensures) false refl _ _ refl refl (held _)
+          (v .before .placed .ensures) (v .weighed .ensures) false refl _ _ refl refl (held _)
           (triangle-same _ _ 1 _ _ _ _ _ (let m = first t i .pre .1 .1 .total in omega arith) (v .before .before .before .share .ensures)
           (v .before .before .share2 .ensures) (x .2 .ensures))
           _ (all-of ((first t i) .args .t .now) ((first t i) .args .count) _ (let p = (first t i) .pre .1 .0 in omega arith)) _ (x .4 .ensures .1),
@@ -290,7 +284,7 @@ gather-tri-met t c =
     rw (x .7, x .8) (
       x .5 .ensures .0,
       one-more _ _ _ _ _ _ _ _ _ _ (first t i .pre .1 .1) _ _ (fewer t i) _ _ _ _ _ (i .before .loop .inv .2) (i .loop-test .taken) _ _
-          (v .before .key .ensures) (v .weight-of .ensures) false (none-anew _ (first t i .pre .1 .0)) _ _ refl refl (held _)
+          (v .before .placed .ensures) (v .weighed .ensures) false (none-anew _ (first t i .pre .1 .0)) _ _ refl refl (held _)
           (triangle-same _ _ _ _ _ _ _ _ (let m = first t i .pre .1 .1 .total in omega arith) (v .before .before .before .share .ensures)
           (v .before .before .share2 .ensures) (re-lowered (sym e ∙ fewer t i) (x .2 .ensures)))
           _ (all-of ((first t i) .args .t .now) ((first t i) .args .count) _ (let p = (first t i) .pre .1 .0 in omega arith)) _ (x .5 .ensures .1),
@@ -356,10 +350,8 @@ pub +gather-tri-spec : {M : Type 1} → statement M
     (gather-tri-loop-holds t)
     (gather-tri-share-requires t)
     (gather-tri-share-requires-2 t)
-    (gather-tri-key-requires t)
-    (gather-tri-add-place t)
-    (gather-tri-weight-of-requires t)
-    (gather-tri-mul-v t)
+    (gather-tri-placed-requires t)
+    (gather-tri-weighed-requires t)
     (gather-tri-tri-six-requires t)
     (gather-tri-pair-tri-requires t)
     (gather-tri-tri-three-requires t)

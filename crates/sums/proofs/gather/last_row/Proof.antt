@@ -35,14 +35,11 @@ mul-closed c =
 loop-holds : tie.Need-loop-holds Inv-loop μ-loop
 loop-holds c = (let h = c .before .pre .0 .able .here in omega arith, last-start _ _ _ _ _ _ _ _ _ (c .before .pre .0) _)
 
-weight-of-requires : tie.Need-weight-of-requires Inv-loop μ-loop
-weight-of-requires c κs = let n = first c .pre .0 .able .good .few in omega arith
-
-mul-heavy : tie.Need-mul-heavy Inv-loop μ-loop
-mul-heavy c =
-    let i = c .before in
-    let p = last-small _ _ _ _ _ _ _ _ _ (first i .pre .0) _ _ _ _ _ (i .before .loop .inv .1) (i .loop-test .taken) _ _ refl (c .weight-of .ensures) in
-    omega arith
+weighed-requires : tie.Need-weighed-requires Inv-loop μ-loop
+weighed-requires c κs =
+    let n = first c .pre .0 .able .good .few in
+    let p = last-small _ _ _ _ _ _ _ _ _ (first c .pre .0) _ _ _ _ _ (c .before .loop .inv .1) (c .loop-test .taken) in
+    (omega arith, omega arith)
 
 share-requires : tie.Need-share-requires Inv-loop μ-loop
 share-requires c κs = let i = c .before in let n = first i .pre .0 .able .good .few in (omega arith, i .before .before .group .ensures .1)
@@ -54,25 +51,22 @@ toward-requires c κs =
     let p = first i .pre in
     (inside-here _ _ _ _ _ _ _ (p .1) (i .loop-test .taken) (i .before .before .group .ensures .0) (c .share .ensures), p .2 .most 0, p .2 .most 1)
 
-key-requires : tie.Need-key-requires Inv-loop μ-loop
-key-requires c κs = let n = first (c .before .before .before .before) .pre .0 .able .good .few in omega arith
-
-add-settle : tie.Need-add-settle Inv-loop μ-loop
-add-settle c =
-    let i = c .before .before .before .before .before in
-    let p = last-asks _ _ _ _ _ _ _ _ _ (first i .pre .0) _ _ _ _ _ (i .before .loop .inv .1) (i .loop-test .taken) _ _ (c .key .ensures)
-    (c .before .before .before .before .weight-of .ensures) in
+placed-requires : tie.Need-placed-requires Inv-loop μ-loop
+placed-requires c κs =
+    let i = c .before .before .before .before in
+    let n = first i .pre .0 .able .good .few in
+    let p = last-asks _ _ _ _ _ _ _ _ _ (first i .pre .0) _ _ _ _ _ (i .before .loop .inv .1) (i .loop-test .taken) _ _ refl refl in
     let long = i .before .loop .inv .1 .sofar .toward .long in
-    let q = first i .good in
-    omega arith
+    let q = first i .good .1 .1 .1 .1 .1 .1 .1 .1 .0 in
+    (omega arith, omega arith)
 
 settle-requires : tie.Need-settle-requires Inv-loop μ-loop
 unfolding entryMost
 settle-requires c κs =
     let i = c .before .before .before .before .before in
     let p = first i .pre in
-    let a = last-asks _ _ _ _ _ _ _ _ _ (first i .pre .0) _ _ _ _ _ (i .before .loop .inv .1) (i .loop-test .taken) _ _ (c .key .ensures)
-    (c .before .before .before .before .weight-of .ensures) in (
+    let a = last-asks _ _ _ _ _ _ _ _ _ (first i .pre .0) _ _ _ _ _ (i .before .loop .inv .1) (i .loop-test .taken) _ _ (c .placed .ensures)
+    (c .before .before .before .before .weighed .ensures) in (
       a .0,
       rw (c .before .before .toward .ensures) (between-most _ _ _ (2 ^ 42) (inside-here _ _ _ _ _ _ _ (p .1) (i .loop-test .taken)
           (i .before .before .group .ensures .0) (c .before .before .before .share .ensures)) (p .2 .most 0) (p .2 .most 1)),
@@ -90,8 +84,8 @@ loop-again c =
     let k = c .before .before in
     let i = k .before .before .before .before .before in (
       omega arith,
-      last-more _ _ _ _ _ _ _ _ _ (first i .pre .0) _ _ _ _ _ (i .before .loop .inv .1) (i .loop-test .taken) _ _ (k .key .ensures)
-          (k .before .before .before .before .weight-of .ensures)
+      last-more _ _ _ _ _ _ _ _ _ (first i .pre .0) _ _ _ _ _ (i .before .loop .inv .1) (i .loop-test .taken) _ _ (k .placed .ensures)
+          (k .before .before .before .before .weighed .ensures)
           (boxed _ _) (last-same _ _ _ _ _ _ _ _ _ (i .before .before .group .ensures .0) (k .before .before .before .share .ensures)
           (inside-here _ _ _ _ _ _ _ (first i .pre .1) (i .loop-test .taken) (i .before .before .group .ensures .0)
           (k .before .before .before .share .ensures)) (k .before .before .toward .ensures)) _ (box-corner _ _) _ (c .before .settle .ensures),
@@ -120,12 +114,10 @@ last-row-spec =
     group-requires
     mul-closed
     loop-holds
-    weight-of-requires
-    mul-heavy
+    weighed-requires
     share-requires
     toward-requires
-    key-requires
-    add-settle
+    placed-requires
     settle-requires
     add-c
     loop-less

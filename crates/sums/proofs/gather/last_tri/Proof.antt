@@ -31,14 +31,11 @@ mul-closed c =
 loop-holds : tie.Need-loop-holds Inv-loop μ-loop
 loop-holds c = (let h = c .pre .0 .able .here in omega arith, last-start _ _ _ _ _ _ _ _ _ (c .pre .0) _)
 
-weight-of-requires : tie.Need-weight-of-requires Inv-loop μ-loop
-weight-of-requires c κs = let n = first c .pre .0 .able .good .few in omega arith
-
-mul-v : tie.Need-mul-v Inv-loop μ-loop
-mul-v c =
-    let i = c .before in
-    let p = last-small _ _ _ _ _ _ _ _ _ (first i .pre .0) _ _ _ _ _ (i .before .loop .inv .1) (i .loop-test .taken) _ _ refl (c .weight-of .ensures) in
-    omega arith
+weighed-requires : tie.Need-weighed-requires Inv-loop μ-loop
+weighed-requires c κs =
+    let n = first c .pre .0 .able .good .few in
+    let p = last-small _ _ _ _ _ _ _ _ _ (first c .pre .0) _ _ _ _ _ (c .before .loop .inv .1) (c .loop-test .taken) in
+    (omega arith, omega arith)
 
 share-requires : tie.Need-share-requires Inv-loop μ-loop
 share-requires c κs = let n = first (c .before) .pre .0 .able .good .few in (omega arith, omega arith)
@@ -53,25 +50,22 @@ mix-requires c κs =
     let p = first i .pre in
     (rw (c .before .share .ensures, c .share2 .ensures) (p .1 .both _ (i .loop-test .taken)), p .2 .most 0, p .2 .most 1, p .2 .most 2)
 
-key-requires : tie.Need-key-requires Inv-loop μ-loop
-key-requires c κs = let n = first (c .before .before .before .before .before) .pre .0 .able .good .few in omega arith
-
-add-settle : tie.Need-add-settle Inv-loop μ-loop
-add-settle c =
-    let i = c .before .before .before .before .before .before in
-    let p = last-asks _ _ _ _ _ _ _ _ _ (first i .pre .0) _ _ _ _ _ (i .before .loop .inv .1) (i .loop-test .taken) _ _ (c .key .ensures)
-    (c .before .before .before .before .before .weight-of .ensures) in
+placed-requires : tie.Need-placed-requires Inv-loop μ-loop
+placed-requires c κs =
+    let i = c .before .before .before .before .before in
+    let n = first i .pre .0 .able .good .few in
+    let p = last-asks _ _ _ _ _ _ _ _ _ (first i .pre .0) _ _ _ _ _ (i .before .loop .inv .1) (i .loop-test .taken) _ _ refl refl in
     let long = i .before .loop .inv .1 .sofar .toward .long in
     let q = first i .good in
-    omega arith
+    (omega arith, omega arith)
 
 settle-requires : tie.Need-settle-requires Inv-loop μ-loop
 unfolding entryMost
 settle-requires c κs =
     let i = c .before .before .before .before .before .before in
     let p = first i .pre in
-    let a = last-asks _ _ _ _ _ _ _ _ _ (first i .pre .0) _ _ _ _ _ (i .before .loop .inv .1) (i .loop-test .taken) _ _ (c .key .ensures)
-    (c .before .before .before .before .before .weight-of .ensures) in (
+    let a = last-asks _ _ _ _ _ _ _ _ _ (first i .pre .0) _ _ _ _ _ (i .before .loop .inv .1) (i .loop-test .taken) _ _ (c .placed .ensures)
+    (c .before .before .before .before .before .weighed .ensures) in (
       a .0,
       rw (c .before .before .mix .ensures) (among-most _ _ _ _ _ (2 ^ 42) (rw (
         c .before .before .before .before .share .ensures,
@@ -91,8 +85,8 @@ loop-again c =
     let k = c .before .before in
     let i = k .before .before .before .before .before .before in (
       omega arith,
-      last-more _ _ _ _ _ _ _ _ _ (first i .pre .0) _ _ _ _ _ (i .before .loop .inv .1) (i .loop-test .taken) _ _ (k .key .ensures)
-          (k .before .before .before .before .before .weight-of .ensures)
+      last-more _ _ _ _ _ _ _ _ _ (first i .pre .0) _ _ _ _ _ (i .before .loop .inv .1) (i .loop-test .taken) _ _ (k .placed .ensures)
+          (k .before .before .before .before .before .weighed .ensures)
           (held _) (last-same _ _ _ _ _ _ _ _ _ (k .before .before .before .before .share .ensures) (k .before .before .before .share2 .ensures)
           (rw (k .before .before .before .before .share .ensures, k .before .before .before .share2 .ensures)
           (first i .pre .1 .both _ (i .loop-test .taken))) (k .before .before .mix .ensures)) _ (triangle-corner _) _ (c .before .settle .ensures),
@@ -120,13 +114,11 @@ last-tri-spec =
     μ-loop
     mul-closed
     loop-holds
-    weight-of-requires
-    mul-v
+    weighed-requires
     share-requires
     share-requires-2
     mix-requires
-    key-requires
-    add-settle
+    placed-requires
     settle-requires
     add-c
     loop-less

@@ -71,32 +71,27 @@ chosen-requires c κs = search needs
 chosen-requires-2 : tie.Need-chosen-requires-2 Inv-loop μ-loop
 chosen-requires-2 c κs = search needs
 
-key-requires : tie.Need-key-requires Inv-loop μ-loop
-key-requires c κs = let n = first (c .before .before .before .before) .pre .0 .able .good .few in omega arith
-
-add-place : tie.Need-add-place Inv-loop μ-loop
-add-place c =
-    let i = c .before .before .before .before .before in
-    let p = place _ _ _ _ _ _ _ _ _ _ (first i .pre .0) _ 1 refl _ _ _ _ _ (i .before .loop .inv .2) (i .loop-test .taken) _ _ (c .key .ensures) refl in
+placed-requires : tie.Need-placed-requires Inv-loop μ-loop
+placed-requires c κs =
+    let i = c .before .before .before .before in
+    let n = first i .pre .0 .able .good .few in
+    let p = place _ _ _ _ _ _ _ _ _ _ (first i .pre .0) _ 1 refl _ _ _ _ _ (i .before .loop .inv .2) (i .loop-test .taken) in
     let long = i .before .loop .inv .2 .toward .long in
     let q = first i .good .1 .1 .1 .1 .1 .1 .1 .1 .0 in
-    omega arith
+    (omega arith, omega arith)
 
-weight-of-requires : tie.Need-weight-of-requires Inv-loop μ-loop
-weight-of-requires c κs = let n = first (c .before .before .before .before .before) .pre .0 .able .good .few in omega arith
-
-mul-v : tie.Need-mul-v Inv-loop μ-loop
-mul-v c =
-    let i = c .before .before .before .before .before .before in
-    let p = next-small _ _ _ _ _ _ _ _ _ _ (first i .pre .0) _ 1 refl _ _ _ _ _ (i .before .loop .inv .2) (i .loop-test .taken) _ _
-    (c .before .key .ensures) (c .weight-of .ensures) in
-    omega arith
+weighed-requires : tie.Need-weighed-requires Inv-loop μ-loop
+weighed-requires c κs =
+    let i = c .before .before .before .before .before in
+    let n = first i .pre .0 .able .good .few in
+    let p = next-small _ _ _ _ _ _ _ _ _ _ (first i .pre .0) _ 1 refl _ _ _ _ _ (i .before .loop .inv .2) (i .loop-test .taken) in
+    (omega arith, omega arith)
 
 last-row-requires : tie.Need-last-row-requires Inv-loop μ-loop
 last-row-requires c κs =
     let i = turning c in (
       next-ready _ _ _ _ _ _ _ _ _ _ (first i .pre .0) _ 1 refl _ _ _ _ _ (i .before .loop .inv .2) (i .loop-test .taken) _ _
-          (c .before .before .key .ensures) (c .before .weight-of .ensures) _ refl _ _ (c .before .before .before .before .chosen .ensures)
+          (c .before .before .placed .ensures) (c .before .weighed .ensures) _ refl _ _ (c .before .before .before .before .chosen .ensures)
           (c .before .before .before .chosen2 .ensures),
       first i .pre .1,
       small-up _ 1 (omega arith) (c .before .before .before .before .before .four-two .ensures .most (entryMost 2) (first i .pre .2)),
@@ -131,7 +126,7 @@ loop-again c =
       one-counted _ _ _ _ 1 _ _ _ _ _ 2 _ refl (d .before .before .before .before .chosen .ensures) (i .loop-test .taken) refl (omega arith)
           (i .before .loop .inv .1) (c .before .last-row .ensures .0),
       one-more _ _ _ _ _ _ _ _ _ _ (first i .pre .0) _ 1 refl _ _ _ _ _ (i .before .loop .inv .2) (i .loop-test .taken) _ _
-          (d .before .before .key .ensures) (d .before .weight-of .ensures) _ refl _ _ (d .before .before .before .before .chosen .ensures)
+          (d .before .before .placed .ensures) (d .before .weighed .ensures) _ refl _ _ (d .before .before .before .before .chosen .ensures)
           (d .before .before .before .chosen2 .ensures) (boxed _ _)
           (box-same _ _ _ 1 _ _ _ _ _ _ 2 (i .before .before .before .before .group .ensures .0)
           (d .before .before .before .before .before .before .share .ensures) (gap-two _) (size-two _)
@@ -165,10 +160,8 @@ pair-row-spec =
     four-two-requires
     chosen-requires
     chosen-requires-2
-    key-requires
-    add-place
-    weight-of-requires
-    mul-v
+    placed-requires
+    weighed-requires
     last-row-requires
     add-n
     add-n-2

@@ -63,32 +63,27 @@ six-three-requires c κs =
     let p = first i .pre in
     (rw (c .before .share .ensures, c .share2 .ensures) (p .1 .both _ (i .loop-test .taken)), small-low _ 2 (omega arith) (omega arith) (p .2))
 
-key-requires : tie.Need-key-requires Inv-loop μ-loop
-key-requires c κs = let n = first (c .before .before .before) .pre .0 .able .good .few in omega arith
-
-add-place : tie.Need-add-place Inv-loop μ-loop
-add-place c =
-    let i = c .before .before .before .before in
-    let p = place _ _ _ _ _ _ _ _ _ _ (first i .pre .0) _ 1 refl _ _ _ _ _ (i .before .loop .inv .2) (i .loop-test .taken) _ _ (c .key .ensures) refl in
+placed-requires : tie.Need-placed-requires Inv-loop μ-loop
+placed-requires c κs =
+    let i = c .before .before .before in
+    let n = first i .pre .0 .able .good .few in
+    let p = place _ _ _ _ _ _ _ _ _ _ (first i .pre .0) _ 1 refl _ _ _ _ _ (i .before .loop .inv .2) (i .loop-test .taken) in
     let long = i .before .loop .inv .2 .toward .long in
     let q = first i .good .1 .1 .1 .1 .1 .1 .1 .0 in
-    omega arith
+    (omega arith, omega arith)
 
-weight-of-requires : tie.Need-weight-of-requires Inv-loop μ-loop
-weight-of-requires c κs = let n = first (c .before .before .before .before) .pre .0 .able .good .few in omega arith
-
-mul-v : tie.Need-mul-v Inv-loop μ-loop
-mul-v c =
-    let i = c .before .before .before .before .before in
-    let p = next-small _ _ _ _ _ _ _ _ _ _ (first i .pre .0) _ 1 refl _ _ _ _ _ (i .before .loop .inv .2) (i .loop-test .taken) _ _
-    (c .before .key .ensures) (c .weight-of .ensures) in
-    omega arith
+weighed-requires : tie.Need-weighed-requires Inv-loop μ-loop
+weighed-requires c κs =
+    let i = c .before .before .before .before in
+    let n = first i .pre .0 .able .good .few in
+    let p = next-small _ _ _ _ _ _ _ _ _ _ (first i .pre .0) _ 1 refl _ _ _ _ _ (i .before .loop .inv .2) (i .loop-test .taken) in
+    (omega arith, omega arith)
 
 last-tri-requires : tie.Need-last-tri-requires Inv-loop μ-loop
 last-tri-requires c κs =
     let i = turning c in (
       next-ready _ _ _ _ _ _ _ _ _ _ (first i .pre .0) _ 1 refl _ _ _ _ _ (i .before .loop .inv .2) (i .loop-test .taken) _ _
-          (c .before .before .key .ensures) (c .before .weight-of .ensures) false refl _ _ refl refl,
+          (c .before .before .placed .ensures) (c .before .weighed .ensures) false refl _ _ refl refl,
       first i .pre .1,
       small-up _ 1 (omega arith) (c .before .before .before .six-three .ensures .most (entryMost 2) (first i .pre .2)),
     )
@@ -121,7 +116,7 @@ loop-again c =
       omega arith,
       one-counted _ _ _ _ 1 _ _ _ _ _ 3 false refl refl (i .loop-test .taken) refl (omega arith) (i .before .loop .inv .1) (c .before .last-tri .ensures .0),
       one-more _ _ _ _ _ _ _ _ _ _ (first i .pre .0) _ 1 refl _ _ _ _ _ (i .before .loop .inv .2) (i .loop-test .taken) _ _
-          (d .before .before .key .ensures) (d .before .weight-of .ensures) false refl _ _ refl refl (held _)
+          (d .before .before .placed .ensures) (d .before .weighed .ensures) false refl _ _ refl refl (held _)
           (triangle-same _ _ 1 _ _ _ _ _ (omega arith) (d .before .before .before .before .before .share .ensures)
           (d .before .before .before .before .share2 .ensures) (d .before .before .before .six-three .ensures))
           2 (all-of (first i .args .t .now) (first i .args .count) 2 (omega arith)) _ (c .before .last-tri .ensures .1),
@@ -150,10 +145,8 @@ pair-tri-spec =
     share-requires
     share-requires-2
     six-three-requires
-    key-requires
-    add-place
-    weight-of-requires
-    mul-v
+    placed-requires
+    weighed-requires
     last-tri-requires
     add-n
     add-n-2
