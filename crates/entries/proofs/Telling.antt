@@ -1,22 +1,25 @@
 -- Laws of the lines of a night told pair by pair. Assumes nothing.
-use mathlib.Core.Path.{_≡_, ap, _∙_}
+use mathlib.Core.Path.{_≡_, refl, sym, ap, _∙_}
 use mathlib.Core.Bool.{Bool, true, false, cond}
-use mathlib.Core.List.{List, [], _∷_, _++_}
+use mathlib.Core.List.{List, [], _∷_, _++_, append-assoc, append-nil}
 use Prim.Native.Nat.{ℕ, suc, _+_, _*_, _-_, _/_, _≤_, _<_}
 use native.Mathlib.Numerals.{add-one}
 use native.Mathlib.Omega.{arith}
 use lib.Dec.{eqb, leb}
 use lib.ListN.{length, getD, drop, drop-of-length-le}
 use lib.Seq.{drop-cons}
-use lib.IntN.{ℤ}
 use borrow.Author.Tests.{lt-ltb, le-ltb, le-leb, lt-leb, eq-eqb, ne-eqb}
+use Rattle.spell.specs.Decimal.{digits, decimal}
 use Rattle.wire.specs.Words.{wordAt, signed, numberAt}
 use Rattle.wire.specs.Start.{kindField, lengthField, shortest, isLength, behind, start}
 use Rattle.pairs.specs.Cut.{longestRecord}
 use Rattle.feed.specs.Feed.{capped}
+use Rattle.page.proofs.Forming.{two-parts, three-parts}
 use Rattle.page.specs.Page.{counted, numbered, hexed}
-use Rattle.entries.specs.Text.{requestKind, formIs, colon, newline, byteIs, pointIs, is, today, numberIs, placeIs, countIs, lengthIs, cutOffAt, beginsAt}
-use Rattle.entries.specs.Entry.{askedOf, firstDifference, changeOf, kindChange, pointChange, behindChange, whatDiffers}
+use Rattle.page.specs.Form.{isMark, width, after, valueOf, marked, piece, told, formed}
+use Rattle.entries.specs.Text.{newline, pairIs, atByte, cutOffAt, beginsAt, byteIs, pointIs, is, today, numberIs, placeIs, countIs, lengthIs}
+use Rattle.entries.specs.Text.{titleForm, openingForm, changes, endings}
+use Rattle.entries.specs.Entry.{titleOf, askedOf, firstDifference, changeOf, kindChange, pointChange, behindChange, whatDiffers, entryLine}
 use Rattle.entries.specs.Ending.{noLength, cutOff, wholeTrace, secondEnding, endingLine}
 
 -- ---- the first byte at which two records differ
@@ -62,64 +65,107 @@ module _ (a b : List ℕ) (i : ℕ) (w : Alike a b i) where
         here ∙ rw e in
         record { upto = omega arith; so-far = rw (add-one i) (omega (arith, w .so-far)) }
 
--- ---- what was asked, and what differs
+-- ---- what was asked, and what differs: the text of each form
 
-pub asked-told : (request : List ℕ) (k f : ℕ) → k ≡ wordAt request 2 → f ≡ getD request 4 0
-    → hexed requestKind k ++ counted formIs f ++ colon ≡ askedOf request
-unfolding askedOf kindField
-asked-told request k f p q = rw (p, q)
+pub title-told : (a b : List ℕ) (number offset : ℕ) → formed 0 titleForm a b number offset ≡ titleOf number offset
+unfolding formed told piece marked valueOf after width isMark counted titleOf
+title-told a b number offset = two-parts pairIs (digits number) atByte (digits offset) [] ∙ append-nil _
 
-module _ (a b : List ℕ) (d : ℕ) where
-  pub byte-told : d < start → counted byteIs d ≡ pointChange a b d
-  unfolding pointChange
-  byte-told l = rw (lt-ltb d start l)
+opening-told : (request : List ℕ) (number offset : ℕ)
+    → formed 0 openingForm request request number offset ≡ titleOf number offset ++ askedOf request
+unfolding formed told piece marked valueOf after width isMark counted hexed titleOf askedOf kindField
+opening-told request number offset = two-parts pairIs (digits number) atByte (digits offset) (askedOf request)
 
-  pub point-told : (x y : ℤ) → start ≤ d → x ≡ signed (wordAt a (start + 2 * ((d - start) / 2)))
-      → y ≡ signed (wordAt b (start + 2 * ((d - start) / 2)))
-      → counted pointIs ((d - start) / 2) ++ numbered is x ++ numbered today y ≡ pointChange a b d
-  unfolding pointChange numberAt
-  point-told x y l p q = rw (le-ltb d start l, p, q)
+pub entry-told : (number offset : ℕ) (request recorded now : List ℕ)
+    → formed 0 openingForm request request number offset ++ (whatDiffers recorded now ++ newline) ≡ entryLine number offset request recorded now
+unfolding entryLine
+entry-told number offset request recorded now = rw (opening-told request number offset) (sym (append-assoc (titleOf number offset ++ askedOf request) (whatDiffers recorded now) newline))
 
-module _ (a b : List ℕ) where
-  pub lengths-told : (length a ≡ length b → ⊥) → changeOf lengthIs (length a) (length b) ≡ behindChange a b
+module _ (a b : List ℕ) (n m : ℕ) where
+  kinds-form : formed 0 changes a b n m ≡ kindChange (kindField a) (kindField b) ++ newline
+  unfolding formed told piece marked valueOf after width isMark hexed kindChange kindField
+  kinds-form = refl
+
+  numbers-form : formed 1 changes a b n m ≡ changeOf numberIs (getD a 4 0) (getD b 4 0) ++ newline
+  unfolding formed told piece marked valueOf after width isMark counted changeOf
+  numbers-form = two-parts numberIs (digits (getD a 4 0)) today (digits (getD b 4 0)) newline
+
+  places-form : formed 2 changes a b n m ≡ changeOf placeIs (getD a 5 0) (getD b 5 0) ++ newline
+  unfolding formed told piece marked valueOf after width isMark counted changeOf
+  places-form = two-parts placeIs (digits (getD a 5 0)) today (digits (getD b 5 0)) newline
+
+  counts-form : formed 3 changes a b n m ≡ changeOf countIs (getD a 6 0) (getD b 6 0) ++ newline
+  unfolding formed told piece marked valueOf after width isMark counted changeOf
+  counts-form = two-parts countIs (digits (getD a 6 0)) today (digits (getD b 6 0)) newline
+
+  lengths-form : formed 4 changes a b n m ≡ changeOf lengthIs (length a) (length b) ++ newline
+  unfolding formed told piece marked valueOf after width isMark counted changeOf
+  lengths-form = two-parts lengthIs (digits (length a)) today (digits (length b)) newline
+
+  byte-form : formed 5 changes a b n m ≡ counted byteIs n ++ newline
+  unfolding formed told piece marked valueOf after width isMark counted
+  byte-form = refl
+
+  point-form : formed 6 changes a b n m ≡ (counted pointIs n ++ numbered is (signed (wordAt a m)) ++ numbered today (signed (wordAt b m))) ++ newline
+  unfolding formed told piece marked valueOf after width isMark counted numbered
+  point-form = three-parts pointIs (digits n) is (decimal (signed (wordAt a m))) today (decimal (signed (wordAt b m))) newline
+
+  pub lengths-told : (length a ≡ length b → ⊥) → formed 4 changes a b n m ≡ behindChange a b ++ newline
   unfolding behindChange
-  lengths-told e = rw (ne-eqb _ _ e)
+  lengths-told e = rw (ne-eqb _ _ e) lengths-form
 
-  pub points-told : (d : ℕ) → length a ≡ length b → d ≡ firstDifference a b → pointChange a b d ≡ behindChange a b
-  unfolding behindChange
-  points-told d e f = rw (eq-eqb _ _ e, f)
+  module _ (same : length a ≡ length b) (d : ℕ) (is-first : d ≡ firstDifference a b) where
+    pub byte-told : d < start → n ≡ d → formed 5 changes a b n m ≡ behindChange a b ++ newline
+    unfolding behindChange pointChange
+    byte-told l e = rw (eq-eqb _ _ same, ← is-first, lt-ltb d start l, ← e) byte-form
+
+    pub point-told : start ≤ d → n ≡ (d - start) / 2 → m ≡ start + 2 * n → formed 6 changes a b n m ≡ behindChange a b ++ newline
+    unfolding behindChange pointChange numberAt
+    point-told l e f = rw (eq-eqb _ _ same, ← is-first, le-ltb d start l, ← e, ← f) point-form
 
   module _ (k l : ℕ) (p : k ≡ wordAt a 2) (q : l ≡ wordAt b 2) where
-    pub kinds-told : (k ≡ l → ⊥) → kindChange k l ≡ whatDiffers a b
-    unfolding whatDiffers kindField
-    kinds-told e = rw (← p, ← q, ne-eqb k l e)
+    pub kinds-told : (k ≡ l → ⊥) → formed 0 changes a b n m ≡ whatDiffers a b ++ newline
+    unfolding whatDiffers
+    kinds-told e = let o : eqb (kindField a) (kindField b) ≡ false = unfold kindField in rw (← p, ← q) (ne-eqb k l e) in rw o kinds-form
 
-    module _ (same : k ≡ l) (m n : ℕ) (r : m ≡ getD a 4 0) (s : n ≡ getD b 4 0) where
-      pub numbers-told : (m ≡ n → ⊥) → changeOf numberIs m n ≡ whatDiffers a b
-      unfolding whatDiffers kindField
-      numbers-told e = rw (← p, ← q, eq-eqb k l same, ← r, ← s, ne-eqb m n e)
+    module _ (same : k ≡ l) (s : Bool) (x : s ≡ eqb (getD a 4 0) (getD b 4 0)) where
+      kinds-same : eqb (kindField a) (kindField b) ≡ true
+      unfolding kindField
+      kinds-same = rw (← p, ← q) (eq-eqb k l same)
 
-      module _ (also : m ≡ n) (i j : ℕ) (t : i ≡ getD a 5 0) (u : j ≡ getD b 5 0) where
-        pub places-told : (i ≡ j → ⊥) → changeOf placeIs i j ≡ whatDiffers a b
-        unfolding whatDiffers kindField
-        places-told e = rw (← p, ← q, eq-eqb k l same, ← r, ← s, eq-eqb m n also, ← t, ← u, ne-eqb i j e)
+      pub numbers-told : s ≡ false → formed 1 changes a b n m ≡ whatDiffers a b ++ newline
+      unfolding whatDiffers
+      numbers-told e = rw (kinds-same, ← x, e) numbers-form
 
-        module _ (still : i ≡ j) (x y : ℕ) (v : x ≡ getD a 6 0) (w : y ≡ getD b 6 0) where
-          pub counts-told : (x ≡ y → ⊥) → changeOf countIs x y ≡ whatDiffers a b
-          unfolding whatDiffers kindField
-          counts-told e =
-              rw (← p, ← q, eq-eqb k l same, ← r, ← s, eq-eqb m n also, ← t, ← u, eq-eqb i j still, ← v, ← w, ne-eqb x y e)
+      module _ (number : s ≡ true) (t : Bool) (y : t ≡ eqb (getD a 5 0) (getD b 5 0)) where
+        pub places-told : t ≡ false → formed 2 changes a b n m ≡ whatDiffers a b ++ newline
+        unfolding whatDiffers
+        places-told e = rw (kinds-same, ← x, number, ← y, e) places-form
 
-          pub behind-told : x ≡ y → behindChange a b ≡ whatDiffers a b
-          unfolding whatDiffers kindField
-          behind-told e =
-              rw (← p, ← q, eq-eqb k l same, ← r, ← s, eq-eqb m n also, ← t, ← u, eq-eqb i j still, ← v, ← w, eq-eqb x y e)
+        module _ (place : t ≡ true) (u : Bool) (z : u ≡ eqb (getD a 6 0) (getD b 6 0)) where
+          pub counts-told : u ≡ false → formed 3 changes a b n m ≡ whatDiffers a b ++ newline
+          unfolding whatDiffers
+          counts-told e = rw (kinds-same, ← x, number, ← y, place, ← z, e) counts-form
+
+          pub behind-told : (f : ℕ) → u ≡ true → formed f changes a b n m ≡ behindChange a b ++ newline
+              → formed f changes a b n m ≡ whatDiffers a b ++ newline
+          unfolding whatDiffers
+          behind-told f e g = rw (kinds-same, ← x, number, ← y, place, ← z, e) g
 
 -- ---- the end
 
-pub cut-told : (offset rest e : ℕ) → e ≡ capped (offset + rest) → counted cutOffAt e ++ counted beginsAt offset ++ newline ≡ cutOff offset rest
-unfolding cutOff
-cut-told offset rest e p = rw p
+module _ (kept : List ℕ) where
+  pub whole-form : (n offset : ℕ) → formed 0 endings kept kept n offset ≡ wholeTrace offset
+  unfolding formed told piece marked valueOf after width isMark counted wholeTrace
+  whole-form n offset = refl
+
+  pub cut-form : (offset rest n : ℕ) → n ≡ capped (offset + rest) → formed 1 endings kept kept n offset ≡ cutOff offset rest
+  unfolding formed told piece marked valueOf after width isMark counted cutOff
+  cut-form offset rest n e = rw (← e) (two-parts cutOffAt (digits n) beginsAt (digits offset) newline)
+
+  pub length-form : (size offset : ℕ) → formed 2 endings kept kept size offset ≡ noLength size offset
+  unfolding formed told piece marked valueOf after width isMark counted noLength
+  length-form size offset = two-parts lengthIs (digits size) atByte (digits offset) newline
 
 pub short-length : (n : ℕ) → n < shortest → false ≡ isLength longestRecord n
 unfolding isLength

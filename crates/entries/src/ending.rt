@@ -6,32 +6,21 @@ ghost use Rattle.wire.specs.Start.{lengthField, isLength};
 ghost use Rattle.pairs.specs.Cut.{longestRecord};
 ghost use Rattle.feed.specs.Feed.{capped};
 ghost use Rattle.page.specs.Page.{Puts};
-ghost use Rattle.entries.specs.Ending.{noLength, cutOff, wholeTrace, secondEnding, endingLine};
-use crate::entry::put_at_byte;
-use page::put;
-use page::put_natural;
+ghost use Rattle.page.specs.Form.{formed};
+ghost use Rattle.entries.specs.Text.{endings};
+ghost use Rattle.entries.specs.Ending.{cutOff, secondEnding, endingLine};
+use crate::Line;
+use page::put_form;
 
-fn put_length(size: u64, offset: u64, page: &mut [u8]) -> usize
-    ensures { λ r. ⌜ Puts (now (page .entry)) 0 (noLength size offset) (now (page .exit)) r ⌝ }
+// Cut off behind `rest` bytes.
+fn cut(offset: u64, rest: u64, kept: &[u8]) -> Line
+    ensures { λ r. ⌜ formed (r .form) endings (now (kept .entry)) (now (kept .entry)) (r .n) (r .m) ≡ cutOff offset rest ⌝ }
 {
-    let a = put_natural(b"length ", size, page, 0);
-    let b = put_at_byte(offset, page, a);
-    put(b"\n", page, b)
-}
-
-fn put_cut(offset: u64, rest: u64, page: &mut [u8]) -> usize
-    ensures { λ r. ⌜ Puts (now (page .entry)) 0 (cutOff offset rest) (now (page .exit)) r ⌝ }
-{
-    let a = put_natural(b"cut off at byte ", capped::sum(offset, rest), page, 0);
-    let b = put_natural(b", in the pair that begins at byte ", offset, page, a);
-    put(b"\n", page, b)
-}
-
-fn put_whole(offset: u64, page: &mut [u8]) -> usize
-    ensures { λ r. ⌜ Puts (now (page .entry)) 0 (wholeTrace offset) (now (page .exit)) r ⌝ }
-{
-    let a = put_natural(b"the trace ends at byte ", offset, page, 0);
-    put(b"\n", page, a)
+    Line {
+        form: 1,
+        n: capped::sum(offset, rest),
+        m: offset,
+    }
 }
 
 fn is_length(n: u64) -> bool
@@ -51,33 +40,60 @@ fn second_at(offset: u64, kept: &[u8]) -> u64
 }
 
 // Behind a first record of a right length.
-fn put_second(offset: u64, rest: u64, kept: &[u8], page: &mut [u8]) -> usize
-    ensures { λ r. ⌜ Puts (now (page .entry)) 0 (secondEnding offset rest (now (kept .entry))) (now (page .exit)) r ⌝ }
+fn second_ending(offset: u64, rest: u64, kept: &[u8]) -> Line
+    ensures { λ r. ⌜ formed (r .form) endings (now (kept .entry)) (now (kept .entry)) (r .n) (r .m) ≡ secondEnding offset rest (now (kept .entry)) ⌝ }
 {
-    let first = wire::word_at(kept, 0);
-    if rest < first + 2 {
-        return put_cut(offset, rest, page);
+    if rest < wire::word_at(kept, 0) + 2 {
+        return cut(offset, rest, kept);
     }
     let second = wire::word_at(pairs::behind(kept), 0);
     if is_length(second) {
-        return put_cut(offset, rest, page);
+        return cut(offset, rest, kept);
     }
-    put_length(second, second_at(offset, kept), page)
+    Line {
+        form: 2,
+        n: second,
+        m: second_at(offset, kept),
+    }
+}
+
+fn ending(offset: u64, rest: u64, kept: &[u8]) -> Line
+    ensures { λ r. ⌜ formed (r .form) endings (now (kept .entry)) (now (kept .entry)) (r .n) (r .m) ≡ endingLine offset rest (now (kept .entry)) ⌝ }
+{
+    if rest == 0 {
+        return Line {
+            form: 0,
+            n: 0,
+            m: offset,
+        };
+    }
+    if rest < 2 {
+        return cut(offset, rest, kept);
+    }
+    let first = wire::word_at(kept, 0);
+    if is_length(first) {
+        return second_ending(offset, rest, kept);
+    }
+    Line {
+        form: 2,
+        n: first,
+        m: offset,
+    }
 }
 
 // `rest` bytes were read from the start of the pair that is not whole, at byte `offset`; `kept` are the first of them.
 pub fn put_ending(offset: u64, rest: u64, kept: &[u8], page: &mut [u8]) -> usize
     ensures { λ r. ⌜ Puts (now (page .entry)) 0 (endingLine offset rest (now (kept .entry))) (now (page .exit)) r ⌝ }
 {
-    if rest == 0 {
-        return put_whole(offset, page);
-    }
-    if rest < 2 {
-        return put_cut(offset, rest, page);
-    }
-    let first = wire::word_at(kept, 0);
-    if is_length(first) {
-        return put_second(offset, rest, kept, page);
-    }
-    put_length(first, offset, page)
+    let line = ending(offset, rest, kept);
+    put_form(
+        line.form,
+        b"the trace ends at byte !A\n;cut off at byte !1, in the pair that begins at byte !A\n;length !1 at byte !A\n",
+        kept,
+        kept,
+        line.n,
+        line.m,
+        page,
+        0,
+    )
 }

@@ -7,3 +7,10 @@ pub use ending::put_ending;
 pub use entry::first_difference;
 pub use entry::put_entry;
 pub use entry::put_title;
+
+// Which of a line's forms, and the numbers in it.
+struct Line {
+    form: u8,
+    n: u64,
+    m: u64,
+}

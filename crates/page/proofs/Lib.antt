@@ -1,2 +1,3 @@
 -- Laws of putting text on a page. Assumes nothing.
 pub mod Putting
+pub mod Forming

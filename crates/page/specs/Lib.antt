@@ -1,2 +1,3 @@
 -- Text put on a page. Assumes nothing.
 pub mod Page
+pub mod Form

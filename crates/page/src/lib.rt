@@ -1,5 +1,8 @@
 // Text put on a page, a lent buffer, one piece after the other: bytes, and a word with a number. Each function puts its text from a
 // place on, as far as there is room, and answers where it ends.
+mod form;
+
+pub use form::put_form;
 ghost use mathlib.Core.Path.{_≡_};
 ghost use Prim.Native.Nat.{min};
 ghost use lib.ListN.{take};

@@ -2,5 +2,6 @@
 pub mod Text
 pub mod Asked
 pub mod Replied
+pub mod Forms
 pub mod Page
 pub mod Examples

@@ -4,9 +4,19 @@ mod asked;
 mod marked;
 mod replied;
 
+ghost use mathlib.Core.Path.{_≡_};
+ghost use Prim.Native.Nat.{max};
 ghost use Rattle.page.specs.Page.{Puts};
 ghost use Rattle.shown.specs.Page.{shownPage};
-use page::put;
+
+fn larger(a: usize, b: usize) -> usize
+    ensures { λ r. ⌜ r ≡ max a b ⌝ }
+{
+    if a < b {
+        return b;
+    }
+    a
+}
 
 // The page of a pair.
 pub fn put_page(
@@ -20,8 +30,7 @@ pub fn put_page(
     ensures { λ r. ⌜ Puts (now (page .entry)) 0 (shownPage number offset (now (request .entry)) (now (recorded .entry)) (now (today .entry))) (now (page .exit)) r ⌝ }
 {
     let a = entries::put_title(number, offset, page, 0);
-    let b = put(b"\n", page, a);
-    let c = asked::put_request(request, page, b);
-    let d = replied::put_table(recorded, today, page, c);
-    marked::put_end(recorded, today, page, d)
+    let b = asked::put_request(request, page, a);
+    let c = replied::put_table(recorded, today, page, b);
+    marked::put_end(recorded, today, page, c)
 }

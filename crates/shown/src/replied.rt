@@ -1,16 +1,17 @@
 // The recorded reply and today's, side by side.
 ghost use mathlib.Core.Path.{_≡_};
-ghost use Prim.Native.Nat.{_<_, max};
+ghost use mathlib.Core.List.{_++_};
+ghost use Prim.Native.Nat.{_≤_, _<_, max};
+ghost use Rattle.names.specs.Names.{nameOf};
 ghost use Rattle.page.specs.Page.{Puts};
-ghost use Rattle.shown.specs.Replied.{pointCount, refusalText, answerText, answersText, bothText};
-ghost use Rattle.shown.specs.Replied.{headsText, placesText, pointText, rowText, rowsText, tableText};
+ghost use Rattle.page.specs.Form.{formed};
+ghost use Rattle.shown.specs.Forms.{answerForms, lacks};
+ghost use Rattle.shown.specs.Replied.{pointCount, answerText, headsText, placesText, rowText, rowsText};
+use crate::larger;
 use page::front;
 use page::put;
-use page::put_hex;
-use page::put_natural;
-use page::put_number;
+use page::put_form;
 use wire::byte_at;
-use wire::number_at;
 use wire::word_at;
 
 // How many points a reply has: none where it is a refusal, or not as long as its count says.
@@ -30,82 +31,76 @@ fn points(reply: &[u8]) -> usize
     count as usize
 }
 
-fn put_refusal(n: u64, page: &mut [u8], at: usize) -> usize
-    ensures { λ r. ⌜ Puts (now (page .entry)) at (refusalText n) (now (page .exit)) r ⌝ }
+// Which form a reply's answer has, and the refusal that is named behind it, or 0.
+struct Answer {
+    form: u8,
+    n: u64,
+}
+
+fn answered(reply: &[u8]) -> Answer
+    ensures { λ r. ⌜ formed (r .form) answerForms (now (reply .entry)) (now (reply .entry)) 0 0 ++ nameOf (r .n) ≡ answerText (now (reply .entry)) ⌝ }
 {
-    let a = put_natural(b"refused ", n, page, at);
-    let b = put(b" ", page, a);
-    let mut name = [0u8; 9];
-    let k = names::write_name(n, &mut name, 0);
-    put(front(&name, k), page, b)
+    if word_at(reply, 2) != 0x8001 {
+        return Answer { form: 0, n: 0 };
+    }
+    let n = byte_at(reply, 4);
+    if n == 0 {
+        return Answer { form: 1, n: 0 };
+    }
+    Answer { form: 2, n }
 }
 
 fn put_answer(reply: &[u8], page: &mut [u8], at: usize) -> usize
     ensures { λ r. ⌜ Puts (now (page .entry)) at (answerText (now (reply .entry))) (now (page .exit)) r ⌝ }
 {
-    if word_at(reply, 2) != 0x8001 {
-        return put(b"not a reply", page, at);
-    }
-    let n = byte_at(reply, 4);
-    if n == 0 {
-        return put(b"accepted", page, at);
-    }
-    put_refusal(n, page, at)
+    let told = answered(reply);
+    let a = put_form(
+        told.form,
+        b"not a reply;accepted;refused #4 ",
+        reply,
+        reply,
+        0,
+        0,
+        page,
+        at,
+    );
+    let mut name = [0u8; 9];
+    let k = names::write_name(told.n, &mut name, 0);
+    put(front(&name, k), page, a)
 }
 
-fn put_both(word: &[u8], a: u64, b: u64, page: &mut [u8], at: usize) -> usize
-    ensures { λ r. ⌜ Puts (now (page .entry)) at (bothText (now (word .entry)) a b) (now (page .exit)) r ⌝ }
-{
-    let c = put_natural(word, a, page, at);
-    put_natural(b" | ", b, page, c)
-}
-
-fn put_heads(a: &[u8], b: &[u8], page: &mut [u8], at: usize) -> usize
-    ensures { λ r. ⌜ Puts (now (page .entry)) at (headsText (now (a .entry)) (now (b .entry))) (now (page .exit)) r ⌝ }
-{
-    let c = put(b"reply      recorded | today (points in 0.01 mm)", page, at);
-    let d = put_both(b"\n  bytes    ", a.len() as u64, b.len() as u64, page, c);
-    let e = put_hex(b"\n  kind     0x", word_at(a, 2), page, d);
-    put_hex(b" | 0x", word_at(b, 2), page, e)
-}
-
-fn put_answers(a: &[u8], b: &[u8], page: &mut [u8], at: usize) -> usize
-    ensures { λ r. ⌜ Puts (now (page .entry)) at (answersText (now (a .entry)) (now (b .entry))) (now (page .exit)) r ⌝ }
-{
-    let c = put(b"\n  answer   ", page, at);
-    let d = put_answer(a, page, c);
-    let e = put(b" | ", page, d);
-    put_answer(b, page, e)
-}
-
-fn put_places(a: &[u8], b: &[u8], page: &mut [u8], at: usize) -> usize
-    ensures { λ r. ⌜ Puts (now (page .entry)) at (placesText (now (a .entry)) (now (b .entry))) (now (page .exit)) r ⌝ }
-{
-    let f = put_answers(a, b, page, at);
-    let g = put_both(b"\n  place    ", byte_at(a, 5), byte_at(b, 5), page, f);
-    put_both(b"\n  count    ", byte_at(a, 6), byte_at(b, 6), page, g)
-}
-
-// A point behind a word; a reply that has no such point has a dash.
-fn put_point(word: &[u8], reply: &[u8], k: usize, page: &mut [u8], at: usize) -> usize
-    ensures { λ r. ⌜ Puts (now (page .entry)) at (pointText (now (word .entry)) (now (reply .entry)) k) (now (page .exit)) r ⌝ }
+// Whether a reply lacks point k.
+fn lacks_point(reply: &[u8], k: usize) -> u8
+    ensures { λ r. ⌜ r ≡ lacks (now (reply .entry)) k ⌝ }
 {
     if k < points(reply) {
-        return put_number(word, number_at(reply, 8 + 2 * k), page, at);
+        return 0;
     }
-    let a = put(word, page, at);
-    put(b"-", page, a)
+    1
 }
 
+// A reply that has no such point has a dash.
 fn put_row(a: &[u8], b: &[u8], k: usize, page: &mut [u8], at: usize) -> usize
+    requires { ⌜ k < 256 ⌝ }
     ensures { λ r. ⌜ Puts (now (page .entry)) at (rowText (now (a .entry)) (now (b .entry)) k) (now (page .exit)) r ⌝ }
 {
-    let c = put_natural(b"\n  point ", k as u64, page, at);
-    let d = put_point(b"  ", a, k, page, c);
-    put_point(b" | ", b, k, page, d)
+    let n = k as u64;
+    let m = 8 + 2 * n;
+    let c = put_form(
+        lacks_point(a, k),
+        b"\n  point !1  %1;\n  point !1  -",
+        a,
+        a,
+        n,
+        m,
+        page,
+        at,
+    );
+    put_form(lacks_point(b, k), b" | %1; | -", b, b, n, m, page, c)
 }
 
 fn put_rows(a: &[u8], b: &[u8], count: usize, page: &mut [u8], at: usize) -> usize
+    requires { ⌜ count ≤ 256 ⌝ }
     ensures { λ r. ⌜ Puts (now (page .entry)) at (rowsText (now (a .entry)) (now (b .entry)) 0 count) (now (page .exit)) r ⌝ }
 {
     let mut end = at;
@@ -117,20 +112,32 @@ fn put_rows(a: &[u8], b: &[u8], count: usize, page: &mut [u8], at: usize) -> usi
     end
 }
 
-fn larger(a: usize, b: usize) -> usize
-    ensures { λ r. ⌜ r ≡ max a b ⌝ }
-{
-    if a < b {
-        return b;
-    }
-    a
-}
-
+// All but the last newline.
 pub fn put_table(a: &[u8], b: &[u8], page: &mut [u8], at: usize) -> usize
-    ensures { λ r. ⌜ Puts (now (page .entry)) at (tableText (now (a .entry)) (now (b .entry))) (now (page .exit)) r ⌝ }
+    ensures { λ r. ⌜ Puts (now (page .entry)) at (headsText (now (a .entry)) (now (b .entry)) ++ placesText (now (a .entry)) (now (b .entry)) ++ rowsText (now (a .entry)) (now (b .entry)) 0 (max (pointCount (now (a .entry))) (pointCount (now (b .entry))))) (now (page .exit)) r ⌝ }
 {
-    let c = put_heads(a, b, page, at);
-    let d = put_places(a, b, page, c);
-    let e = put_rows(a, b, larger(points(a), points(b)), page, d);
-    put(b"\n", page, e)
+    let c = put_form(
+        0,
+        b"reply      recorded | today (points in 0.01 mm)\n  bytes    &1 | &A\n  kind     0x$2 | 0x$B\n  answer   ",
+        a,
+        b,
+        0,
+        0,
+        page,
+        at,
+    );
+    let d = put_answer(a, page, c);
+    let e = put(b" | ", page, d);
+    let f = put_answer(b, page, e);
+    let g = put_form(
+        0,
+        b"\n  place    #5 | #E\n  count    #6 | #F",
+        a,
+        b,
+        0,
+        0,
+        page,
+        f,
+    );
+    put_rows(a, b, larger(points(a), points(b)), page, g)
 }

@@ -1,18 +1,12 @@
 -- `shown::put_page` meets its contract. Assumes nothing.
-use Rattle.shown.specs.Page.{shownPage}
-use Rattle.page.proofs.Putting.{puts-then}
+use Rattle.page.proofs.Putting.{puts-then, puts-same}
+use Rattle.shown.proofs.Telling.{page-told}
 use borrow.Author.Needs.{needs}
 use Rattle.shown.proofs.put_page.Statement.{statement}
 use Rattle.shown.proofs.put_page.Tie as tie
 
 put-title-requires : tie.Need-put-title-requires
 put-title-requires c κs = search needs
-
-slice-aggregate-put : tie.Need-slice-aggregate-put
-slice-aggregate-put c = search needs
-
-put-requires : tie.Need-put-requires
-put-requires c κs = search needs
 
 put-request-requires : tie.Need-put-request-requires
 put-request-requires c κs = search needs
@@ -27,20 +21,17 @@ same-length : tie.Need-same-length
 same-length c = search needs
 
 returns : tie.Need-returns
-unfolding shownPage
-returns c = puts-then _ _ _ _ _ _ _ _ (puts-then _ _ _ _ _ _ _ _ (puts-then _ _ _ _ _ _ _ _ (puts-then _ _ _ _ _ _ _ _ (c .before .before .before
-    .before .before .before .before .before .before .before .before .before .before .before .before .before .before .before .before .put-title
-    .ensures) (c .before .before .before .before .before .before .before .before .before .before .before .before .before .before .put .ensures)) (c
-    .before .before .before .before .before .before .before .before .before .before .put-request .ensures)) (c .before .before .before .before .before
-    .before .put-table .ensures)) (c .before .before .put-end .ensures)
+returns c = puts-same _ _ _ _ _ _ (puts-then _ _ _ _ _ _ _ _ (puts-then _ _ _ _ _ _ _ _ (puts-then _ _ _ _ _ _ _ _ (c .before .before .before
+    .before .before .before .before .before .before .before .before .before .before .before .put-title .ensures) (c .before .before .before .before
+    .before .before .before .before .before .before .put-request .ensures)) (c .before .before .before .before .before .before .put-table .ensures))
+    (c .before .before .put-end .ensures))
+    (page-told _ _ _ _ _)
 
 pub put-page-spec : {M : Type 1} → statement M
 put-page-spec =
     tie.close
     (tie.spec
     put-title-requires
-    slice-aggregate-put
-    put-requires
     put-request-requires
     put-table-requires
     put-end-requires

@@ -1,33 +1,25 @@
 -- `entries::entry::put_change` meets its contract. Assumes nothing.
-use Rattle.entries.specs.Entry.{changeOf}
-use Rattle.page.proofs.Putting.{puts-then}
+use Rattle.page.proofs.Putting.{puts-same}
 use borrow.Author.Needs.{needs}
 use Rattle.entries.proofs.entry.put_change.Statement.{statement}
 use Rattle.entries.proofs.entry.put_change.Tie as tie
 
-put-natural-requires : tie.Need-put-natural-requires
-put-natural-requires c κs = search needs
+change-requires : tie.Need-change-requires
+change-requires c κs = search needs
 
-slice-aggregate-put-natural : tie.Need-slice-aggregate-put-natural
-slice-aggregate-put-natural c = search needs
+slice-aggregate-put-form : tie.Need-slice-aggregate-put-form
+slice-aggregate-put-form c = search needs
 
-put-natural-requires-2 : tie.Need-put-natural-requires-2
-put-natural-requires-2 c κs = search needs
+put-form-requires : tie.Need-put-form-requires
+put-form-requires c κs = search needs
 
 same-length : tie.Need-same-length
 same-length c = search needs
 
 returns : tie.Need-returns
-unfolding changeOf
-returns c = puts-then _ _ _ _ _ _ _ _ (c .before .before .before .before .before .before .before .put-natural .ensures) (c .before .before
-    .put-natural2 .ensures)
+returns c = puts-same _ _ _ _ _ _ (c .before .before .put-form .ensures) (c .before .before .before .before .before .change .ensures)
 
 pub put-change-spec : {M : Type 1} → statement M
 put-change-spec =
     tie.close
-    (tie.spec
-    put-natural-requires
-    slice-aggregate-put-natural
-    put-natural-requires-2
-    same-length
-    returns)
+    (tie.spec change-requires slice-aggregate-put-form put-form-requires same-length returns)

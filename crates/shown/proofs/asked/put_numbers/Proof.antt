@@ -9,23 +9,29 @@ use Rattle.shown.proofs.asked.put_numbers.Statement.{statement}
 use Rattle.shown.proofs.asked.put_numbers.Tie as tie
 
 abbrev Inv-loop : tie.InvT-loop
-Inv-loop request from count page₀ at end₀ k₀ page end k =
-    Onward (numbersText request from 0 count) page₀ at page end (numbersText request from k (count - k))
+Inv-loop request from count page₀ at end₀ k₀ t8 page end k = Onward (numbersText request from 0 count) page₀ at page end (numbersText request from k
+    (count - k))
 
 abbrev μ-loop : tie.MeasureT-loop
-μ-loop request from count page₀ at end₀ k₀ page end k = count - k
+μ-loop request from count page₀ at end₀ k₀ t8 page end k = count - k
 
 loop-holds : tie.Need-loop-holds Inv-loop μ-loop
 loop-holds c = onward-from _ _ _ _ (numbers-all _ _ _)
 
-mul-put-next : tie.Need-mul-put-next Inv-loop μ-loop
-mul-put-next c = omega arith
+slice-aggregate-put-number : tie.Need-slice-aggregate-put-number Inv-loop μ-loop
+slice-aggregate-put-number c = search needs
 
-add-put-next : tie.Need-add-put-next Inv-loop μ-loop
-add-put-next c = omega arith
+mul-number-at : tie.Need-mul-number-at Inv-loop μ-loop
+mul-number-at c = omega arith
 
-put-next-requires : tie.Need-put-next-requires Inv-loop μ-loop
-put-next-requires c κs = search needs
+add-number-at : tie.Need-add-number-at Inv-loop μ-loop
+add-number-at c = omega arith
+
+number-at-requires : tie.Need-number-at-requires Inv-loop μ-loop
+number-at-requires c κs = search needs
+
+put-number-requires : tie.Need-put-number-requires Inv-loop μ-loop
+put-number-requires c κs = search needs
 
 add-k : tie.Need-add-k Inv-loop μ-loop
 add-k c = omega arith
@@ -34,8 +40,8 @@ loop-less : tie.Need-loop-less Inv-loop μ-loop
 loop-less c = omega arith
 
 loop-again : tie.Need-loop-again Inv-loop μ-loop
-loop-again c = onward-more _ _ _ _ _ _ (c .before .before .before .before .before .loop .inv) _ _ _ _ (c .before .before .put-next .ensures)
-    (number-next _ _ _ _ (omega arith))
+loop-again c = onward-more _ _ _ _ _ _ (c .before .before .before .before .before .before .before .loop .inv) _ _ _ _ (c .before .before .put-number
+    .ensures) (number-next _ _ _ _ _ (omega arith) (c .before .before .before .before .number-at .ensures .0))
 
 same-length : tie.Need-same-length Inv-loop μ-loop
 same-length c = omega arith
@@ -50,9 +56,11 @@ put-numbers-spec =
     Inv-loop
     μ-loop
     loop-holds
-    mul-put-next
-    add-put-next
-    put-next-requires
+    slice-aggregate-put-number
+    mul-number-at
+    add-number-at
+    number-at-requires
+    put-number-requires
     add-k
     loop-less
     loop-again

@@ -4,7 +4,6 @@ use native.Mathlib.Omega.{arith}
 use Rattle.shown.specs.Replied.{rowsText}
 use Rattle.page.proofs.Putting.{Onward, onward-more, onward-all}
 use Rattle.shown.proofs.Telling.{onward-from, rows-all, row-next, rows-over}
-use borrow.Author.Needs.{needs}
 use Rattle.shown.proofs.replied.put_rows.Statement.{statement}
 use Rattle.shown.proofs.replied.put_rows.Tie as tie
 
@@ -18,7 +17,7 @@ loop-holds : tie.Need-loop-holds Inv-loop μ-loop
 loop-holds c = onward-from _ _ _ _ (rows-all _ _ _)
 
 put-row-requires : tie.Need-put-row-requires Inv-loop μ-loop
-put-row-requires c κs = search needs
+put-row-requires c κs = omega arith
 
 add-k : tie.Need-add-k Inv-loop μ-loop
 add-k c = omega arith
@@ -27,8 +26,8 @@ loop-less : tie.Need-loop-less Inv-loop μ-loop
 loop-less c = omega arith
 
 loop-again : tie.Need-loop-again Inv-loop μ-loop
-loop-again c = onward-more _ _ _ _ _ _ (c .before .before .before .before .before .loop .inv) _ _ _ _ (c .before .before .put-row .ensures) (row-next
-    _ _ _ _ (omega arith))
+loop-again c = onward-more _ _ _ _ _ _ (c .before .before .before .before .before .loop .inv) _ _ _ _ (c .before .before .put-row .ensures)
+    (row-next _ _ _ _ (omega arith))
 
 same-length : tie.Need-same-length Inv-loop μ-loop
 same-length c = omega arith
