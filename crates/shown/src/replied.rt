@@ -71,7 +71,7 @@ fn put_answer(reply: &[u8], page: &mut [u8], at: usize) -> usize
 
 // Whether a reply lacks point k.
 fn lacks_point(reply: &[u8], k: usize) -> u8
-    ensures { λ r. ⌜ r ≡ lacks (now (reply .entry)) k ⌝ }
+    ensures { λ r. ⌜ (r ≡ lacks (now (reply .entry)) k) × (r < 2) ⌝ }
 {
     if k < points(reply) {
         return 0;
@@ -86,17 +86,16 @@ fn put_row(a: &[u8], b: &[u8], k: usize, page: &mut [u8], at: usize) -> usize
 {
     let n = k as u64;
     let m = 8 + 2 * n;
-    let c = put_form(
-        lacks_point(a, k),
-        b"\n  point !1  %1;\n  point !1  -",
+    put_form(
+        lacks_point(a, k) + 2 * lacks_point(b, k),
+        b"\n  point !1  %1 | %A;\n  point !1  - | %A;\n  point !1  %1 | -;\n  point !1  - | -",
         a,
-        a,
+        b,
         n,
         m,
         page,
         at,
-    );
-    put_form(lacks_point(b, k), b" | %1; | -", b, b, n, m, page, c)
+    )
 }
 
 fn put_rows(a: &[u8], b: &[u8], count: usize, page: &mut [u8], at: usize) -> usize

@@ -6,12 +6,6 @@ use borrow.Author.Needs.{needs}
 use Rattle.shown.proofs.asked.put_request.Statement.{statement}
 use Rattle.shown.proofs.asked.put_request.Tie as tie
 
-slice-aggregate-put-form : tie.Need-slice-aggregate-put-form
-slice-aggregate-put-form c = search needs
-
-put-form-requires : tie.Need-put-form-requires
-put-form-requires c κs = search needs
-
 put-kind-requires : tie.Need-put-kind-requires
 put-kind-requires c κs = search needs
 
@@ -28,17 +22,13 @@ same-length : tie.Need-same-length
 same-length c = search needs
 
 returns : tie.Need-returns
-returns c = puts-same _ _ _ _ _ _ (puts-then _ _ _ _ _ _ _ _ (puts-then _ _ _ _ _ _ _ _ (c .before .before .before .before .before .before .before
-    .before .before .before .before .put-form .ensures) (c .before .before .before .before .before .before .before .put-kind .ensures)) (c .before
-    .before .put-line .ensures))
-    (request-told _ _ (omega arith))
+returns c = puts-same _ _ _ _ _ _ (puts-then _ _ _ _ _ _ _ _ (c .before .before .before .before .before .before .before .put-kind .ensures) (c
+    .before .before .put-line .ensures)) (request-told _ _ (omega arith))
 
 pub put-request-spec : {M : Type 1} → statement M
 put-request-spec =
     tie.close
     (tie.spec
-    slice-aggregate-put-form
-    put-form-requires
     put-kind-requires
     slice-aggregate-put-line
     add-put-line
