@@ -22,11 +22,11 @@ use Rattle.names.specs.Names.{nameOf}
 use Rattle.page.specs.Page.{counted, numbered, hexed, byteShown}
 use Rattle.page.specs.Form.{isMark, width, after, valueOf, marked, piece, told, formed}
 use Rattle.page.proofs.Putting.{Onward, onward-none}
-use Rattle.page.proofs.Forming.{two-parts, three-parts, four-parts}
+use Rattle.page.proofs.Forming.{three-parts, four-parts}
 use Rattle.entries.specs.Entry.{titleOf, firstDifference}
 use Rattle.shown.specs.Text.{newline, blank, bar, dash, gap, formIs, degreesAre, NIs, ageIs, milliseconds, noAge, requestIs, bytesKind, bytesAre}
 use Rattle.shown.specs.Text.{tooShort, noRequest, noForm, noDegree, otherBody, valuesAre, pathIs, replyIs, sizes, kinds, barKind, answersAre}
-use Rattle.shown.specs.Text.{placesAre, countsAre, pointIs, refusedBy, theSame, recordedIs, todayIs, differAt, fromNought}
+use Rattle.shown.specs.Text.{placesAre, countsAre, pointIs, theSame, recordedIs, todayIs, differAt, fromNought}
 use Rattle.shown.specs.Asked.{headText, numbersText, listsText, bodyText, wishText, plainText, agedText, kindText, bytesText, requestText}
 use Rattle.shown.specs.Replied.{pointCount, refusalText, answerText, answersText, bothText, headsText, placesText, pointText, rowText, rowsText, tableText}
 use Rattle.shown.specs.Replied.{gapOf, lastText, markedText, lineText, marksText, endText}
@@ -268,7 +268,7 @@ unmarked mark k (b ∷ l) m =
 request-parts : (n a k w b e : List ℕ) → n ++ a ++ k ++ (w ++ b ++ e) ≡ n ++ (a ++ k ++ w ++ b ++ e)
 request-parts n a k w b e = simp append-assoc
 
-pub request-told : (r : List ℕ) (mark : ℕ) → length r < mark → opening r ++ kindText r ++ lineText bytesAre mark r ≡ newline ++ requestText r
+request-told : (r : List ℕ) (mark : ℕ) → length r < mark → opening r ++ kindText r ++ lineText bytesAre mark r ≡ newline ++ requestText r
 unfolding requestText lineText
 request-told r mark l =
     rw (unmarked mark 0 r (omega arith))
@@ -359,17 +359,19 @@ module _ (a b : List ℕ) (k : ℕ) where
   row-of false true = three-parts pointIs (digits k) gap dash bar (decimal (numberAt b start k)) [] ∙ append-nil _
   row-of false false = three-parts pointIs (digits k) gap dash bar dash [] ∙ append-nil _
 
-  pub row-told : (f g : ℕ) → f ≡ lacks a k → g ≡ lacks b k → formed (f + 2 * g) rowForms a b k (8 + 2 * k) ≡ rowText a b k
+  row-told : (f g : ℕ) → f ≡ lacks a k → g ≡ lacks b k → formed (f + 2 * g) rowForms a b k (8 + 2 * k) ≡ rowText a b k
   unfolding lacks rowText pointText
   row-told f g e h = rw (e, h) (row-of (ltb k (pointCount a)) (ltb k (pointCount b)))
 
 pub rows-all : (a b : List ℕ) (count : ℕ) → rowsText a b 0 (count - 0) ≡ rowsText a b 0 count
 rows-all a b count = let all : count - 0 ≡ count = omega arith in ap (λ (n : ℕ). rowsText a b 0 n) all
 
-pub row-next : (a b : List ℕ) (count k : ℕ) → k < count
-    → rowsText a b k (count - k) ≡ rowText a b k ++ rowsText a b (k + 1) (count - (k + 1))
+pub row-next : (a b : List ℕ) (count k f g : ℕ) → k < count → f ≡ lacks a k → g ≡ lacks b k
+    → rowsText a b k (count - k) ≡ formed (f + 2 * g) rowForms a b k (8 + 2 * k) ++ rowsText a b (k + 1) (count - (k + 1))
 unfolding rowsText
-row-next a b count k l = let more : count - k ≡ suc (count - (k + 1)) = omega arith in rw (more, add-one k)
+row-next a b count k f g l e h =
+    let more : count - k ≡ suc (count - (k + 1)) = omega arith in
+    rw (row-told a b k f g e h, more, add-one k)
 
 pub rows-over : (a b : List ℕ) (count k : ℕ) → count ≤ k → rowsText a b k (count - k) ≡ []
 unfolding rowsText
@@ -463,11 +465,12 @@ module _ (a b : List ℕ) (d : ℕ) (is : d ≡ firstDifference a b) where
 page-parts : (t n r b e : List ℕ) → t ++ (n ++ r) ++ b ++ (n ++ e) ≡ t ++ n ++ r ++ (b ++ n) ++ e
 page-parts t n r b e = simp append-assoc
 
-pub page-told : (number offset : ℕ) (r a b : List ℕ)
-    → titleOf number offset ++ (newline ++ requestText r)
+pub page-told : (number offset : ℕ) (r a b : List ℕ) (mark : ℕ) → length r < mark
+    → titleOf number offset ++ (opening r ++ kindText r) ++ lineText bytesAre mark r
     ++ (headsText a b ++ placesText a b ++ rowsText a b 0 (max (pointCount a) (pointCount b))) ++ (newline ++ endText a b)
     ≡ shownPage number offset r a b
 unfolding shownPage tableText
-page-told number offset r a b =
-    page-parts (titleOf number offset) newline (requestText r)
-    (headsText a b ++ placesText a b ++ rowsText a b 0 (max (pointCount a) (pointCount b))) (endText a b)
+page-told number offset r a b mark l =
+    rw (append-assoc (titleOf number offset) (opening r ++ kindText r) (lineText bytesAre mark r), request-told r mark l)
+    (page-parts (titleOf number offset) newline (requestText r)
+    (headsText a b ++ placesText a b ++ rowsText a b 0 (max (pointCount a) (pointCount b))) (endText a b))

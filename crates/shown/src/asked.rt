@@ -8,7 +8,7 @@ ghost use Rattle.judgement.specs.Record.{agedStart, headIn};
 ghost use Rattle.page.specs.Page.{Puts, counted, hexed};
 ghost use Rattle.shown.specs.Text.{newline, requestIs, bytesKind};
 ghost use Rattle.shown.specs.Forms.{kindOf, wishOf};
-ghost use Rattle.shown.specs.Asked.{numbersText, wishText, kindText, requestText};
+ghost use Rattle.shown.specs.Asked.{numbersText, wishText, kindText};
 use page::put;
 use page::put_form;
 use page::put_number;
@@ -106,7 +106,7 @@ fn kind_of(request: &[u8]) -> u8
 }
 
 // Behind a newline: how many bytes it has, its kind, and what that kind holds.
-fn put_kind(request: &[u8], page: &mut [u8], at: usize) -> usize
+pub fn put_kind(request: &[u8], page: &mut [u8], at: usize) -> usize
     ensures { λ r. ⌜ Puts (now (page .entry)) at (newline ++ (counted requestIs (length (now (request .entry))) ++ hexed bytesKind (kindField (now (request .entry)))) ++ kindText (now (request .entry))) (now (page .exit)) r ⌝ }
 {
     let k = kind_of(request);
@@ -124,11 +124,4 @@ fn put_kind(request: &[u8], page: &mut [u8], at: usize) -> usize
         return a;
     }
     put_wish(request, 8 + 2 * k as usize, page, a)
-}
-
-pub fn put_request(request: &[u8], page: &mut [u8], at: usize) -> usize
-    ensures { λ r. ⌜ Puts (now (page .entry)) at (newline ++ requestText (now (request .entry))) (now (page .exit)) r ⌝ }
-{
-    let a = put_kind(request, page, at);
-    crate::marked::put_line(b"\n  bytes:", request.len() + 1, request, page, a)
 }
