@@ -1,8 +1,6 @@
 // A whole line put by one call: a form, in which marks stand for numbers of two records and for two numbers (specs/Form.antt).
 ghost use mathlib.Core.Path.{_≡_};
-ghost use mathlib.Core.Bool.{cond};
 ghost use Prim.Native.Nat.{_<_};
-ghost use lib.Dec.{ltb};
 ghost use lib.ListN.{length, getD};
 ghost use Rattle.page.specs.Page.{Puts};
 ghost use Rattle.page.specs.Form.{isMark, width, after, valueOf, marked, piece, formed};

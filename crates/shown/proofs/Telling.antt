@@ -22,16 +22,16 @@ use Rattle.names.specs.Names.{nameOf}
 use Rattle.page.specs.Page.{counted, numbered, hexed, byteShown}
 use Rattle.page.specs.Form.{isMark, width, after, valueOf, marked, piece, told, formed}
 use Rattle.page.proofs.Putting.{Onward, onward-none}
-use Rattle.page.proofs.Forming.{two-parts, three-parts, four-parts}
+use Rattle.page.proofs.Forming.{three-parts, four-parts}
 use Rattle.entries.specs.Entry.{titleOf, firstDifference}
 use Rattle.shown.specs.Text.{newline, blank, bar, dash, gap, formIs, degreesAre, NIs, ageIs, milliseconds, noAge, requestIs, bytesKind, bytesAre}
 use Rattle.shown.specs.Text.{tooShort, noRequest, noForm, noDegree, otherBody, valuesAre, pathIs, replyIs, sizes, kinds, barKind, answersAre}
-use Rattle.shown.specs.Text.{placesAre, countsAre, pointIs, refusedBy, theSame, recordedIs, todayIs, differAt, fromNought}
+use Rattle.shown.specs.Text.{placesAre, countsAre, pointIs, theSame, recordedIs, todayIs, differAt, fromNought}
 use Rattle.shown.specs.Asked.{headText, numbersText, listsText, bodyText, wishText, plainText, agedText, kindText, bytesText, requestText}
 use Rattle.shown.specs.Replied.{pointCount, refusalText, answerText, answersText, bothText, headsText, placesText, pointText, rowText, rowsText, tableText}
 use Rattle.shown.specs.Replied.{gapOf, lastText, markedText, lineText, marksText, endText}
-use Rattle.shown.specs.Forms.{kindOf, wishOf, lacks, sideOf, requestForm, kindForms, wishForms, tableForm, answerForms, placesForm, pointForms}
-use Rattle.shown.specs.Forms.{otherForms, lastForms, differForm}
+use Rattle.shown.specs.Forms.{kindOf, wishOf, lacks, sideOf, kindForms, wishForms, tableForm, answerForms, placesForm, rowForms}
+use Rattle.shown.specs.Forms.{lastForms, differForm}
 use Rattle.shown.specs.Page.{shownPage}
 
 -- a loop begins with all of a text left
@@ -63,12 +63,6 @@ numbers-over r from count k l = let none : count - k ≡ 0 = omega arith in rw n
 pub lists-fit : (from : ℕ) (h : Head) (v p size : ℕ) → v ≡ surfaceCount h → p ≡ pathCount h → bodyEnd from h ≡ size → from + 2 * v + 2 * p ≡ size
 unfolding bodyEnd pathStart
 lists-fit from h v p size is also e = rw (is, also) e
-
-pub lists-told : (r : List ℕ) (from : ℕ) (h : Head) (v p : ℕ) → v ≡ surfaceCount h → p ≡ pathCount h
-    → numbersText r from 0 v ++ pathIs ++ numbersText r (from + 2 * v) 0 p
-    ≡ numbersText r from 0 (surfaceCount h) ++ pathIs ++ numbersText r (pathStart from h) 0 (pathCount h)
-unfolding pathStart
-lists-told r from h v p is also = rw (is, also)
 
 -- which form of what is wished
 module _ (r : List ℕ) (from : ℕ) (h : Head) where
@@ -143,13 +137,28 @@ module _ (r : List ℕ) where
   unfolding wishOf wishText bodyText
   wish-short from h k e f = wish-text (notKind h) (notDegree h) (eqb (bodyEnd from h) (length r)) k _ e f
 
-  pub wish-told : (from : ℕ) (h : Head) (k : ℕ) → k ≡ wishOf r from h → k ≡ 3
+  wish-whole-told : (from : ℕ) (h : Head) (k : ℕ) → k ≡ wishOf r from h → k ≡ 3
       → formed k wishForms r r 0 0 ++ (numbersText r from 0 (surfaceCount h) ++ pathIs ++ numbersText r (pathStart from h) 0 (pathCount h))
       ≡ wishText r from h
   unfolding wishOf wishText bodyText listsText
-  wish-told from h k e f =
+  wish-whole-told from h k e f =
       whole-text (notKind h) (notDegree h) (eqb (bodyEnd from h) (length r)) k
       (numbersText r from 0 (surfaceCount h) ++ pathIs ++ numbersText r (pathStart from h) 0 (pathCount h)) e f
+
+  lists-are : (from : ℕ) (h : Head) (v p : ℕ) → v ≡ surfaceCount h → p ≡ pathCount h
+      → numbersText r from 0 v ++ pathIs ++ numbersText r (from + 2 * v) 0 p
+      ≡ numbersText r from 0 (surfaceCount h) ++ pathIs ++ numbersText r (pathStart from h) 0 (pathCount h)
+  unfolding pathStart
+  lists-are from h v p is also = rw (is, also)
+
+  four-in : (a b c d : List ℕ) → a ++ b ++ c ++ d ≡ a ++ (b ++ c ++ d)
+  four-in a b c d = simp append-assoc
+
+  pub wish-told : (from : ℕ) (h : Head) (k v p : ℕ) → k ≡ wishOf r from h → k ≡ 3 → v ≡ surfaceCount h → p ≡ pathCount h
+      → formed k wishForms r r 0 0 ++ numbersText r from 0 v ++ pathIs ++ numbersText r (from + 2 * v) 0 p ≡ wishText r from h
+  wish-told from h k v p e f is also =
+      four-in (formed k wishForms r r 0 0) (numbersText r from 0 v) pathIs (numbersText r (from + 2 * v) 0 p)
+      ∙ rw (lists-are from h v p is also) (wish-whole-told from h k e f)
 
 pub wish-same : (r : List ℕ) (from : ℕ) (h g : Head) → h ≡ g → wishText r from h ≡ wishText r from g
 wish-same r from h g e = rw e
@@ -174,30 +183,56 @@ module _ (r : List ℕ) (k : ℕ) (is : k ≡ wordAt r 2) where
     kind-aged e l = rw (← is, ne-eqb k requestKind other, eq-eqb k agedKind e, le-ltb _ _ l)
 
 -- the texts of its forms
+abbrev opening : List ℕ → List ℕ
+opening r = newline ++ (counted requestIs (length r) ++ hexed bytesKind (kindField r))
+
+open-parts : (a b c d : List ℕ) → a ++ (b ++ (c ++ d)) ≡ a ++ b ++ c ++ d
+open-parts a b c d = simp append-assoc
+
 module _ (r : List ℕ) (n : ℕ) where
-  plain-text : formed 0 kindForms r r n 0 ≡ headText r ++ noAge
-  unfolding formed told piece marked valueOf after width isMark counted headText
-  plain-text = four-parts formIs (digits (getD r 4 0)) degreesAre (digits (getD r 5 0)) blank (digits (getD r 6 0)) NIs (digits (getD r 7 0)) noAge
+  -- what stands behind the opening
+  opened : (text : List ℕ) → (10 ∷ requestIs) ++ (digits (length r) ++ (hexed bytesKind (kindField r) ++ text)) ≡ opening r ++ text
+  unfolding counted
+  opened text = open-parts (10 ∷ requestIs) (digits (length r)) (hexed bytesKind (kindField r)) text
 
-  aged-text : n ≡ wordAt r start → formed 1 kindForms r r n 0 ≡ headText r ++ counted ageIs (wordAt r start) ++ milliseconds
-  unfolding formed told piece marked valueOf after width isMark counted headText
+  head-parts : (behind : List ℕ) → formIs ++ (digits (getD r 4 0) ++ (degreesAre ++ (digits (getD r 5 0) ++ (blank ++ (digits (getD r 6 0)
+      ++ (NIs ++ (digits (getD r 7 0) ++ behind))))))) ≡ headText r ++ behind
+  unfolding counted headText
+  head-parts behind =
+      four-parts formIs (digits (getD r 4 0)) degreesAre (digits (getD r 5 0)) blank (digits (getD r 6 0)) NIs (digits (getD r 7 0)) behind
+
+  plain-form : formed 0 kindForms r r n 0 ≡ (10 ∷ requestIs) ++ (digits (length r) ++ (hexed bytesKind (kindField r) ++ (formIs ++ (digits (getD r 4 0)
+      ++ (degreesAre ++ (digits (getD r 5 0) ++ (blank ++ (digits (getD r 6 0) ++ (NIs ++ (digits (getD r 7 0) ++ noAge))))))))))
+  unfolding formed told piece marked valueOf after width isMark counted hexed kindField
+  plain-form = refl
+
+  aged-form : formed 1 kindForms r r n 0 ≡ (10 ∷ requestIs) ++ (digits (length r) ++ (hexed bytesKind (kindField r) ++ (formIs ++ (digits (getD r 4 0)
+      ++ (degreesAre ++ (digits (getD r 5 0) ++ (blank ++ (digits (getD r 6 0) ++ (NIs ++ (digits (getD r 7 0) ++ (ageIs ++ digits n ++ milliseconds)))))))))))
+  unfolding formed told piece marked valueOf after width isMark counted hexed kindField
+  aged-form = refl
+
+  plain-text : formed 0 kindForms r r n 0 ≡ opening r ++ (headText r ++ noAge)
+  plain-text = plain-form ∙ rw (head-parts noAge) (opened (headText r ++ noAge))
+
+  aged-text : n ≡ wordAt r start → formed 1 kindForms r r n 0 ≡ opening r ++ (headText r ++ counted ageIs (wordAt r start) ++ milliseconds)
+  unfolding counted
   aged-text e =
-      rw (← e)
-      (four-parts formIs (digits (getD r 4 0)) degreesAre (digits (getD r 5 0)) blank (digits (getD r 6 0)) NIs (digits (getD r 7 0))
-      (ageIs ++ digits n ++ milliseconds)
-      ∙ sym (append-assoc (headText r) (ageIs ++ digits n) milliseconds))
+      aged-form
+      ∙ rw (head-parts (ageIs ++ digits n ++ milliseconds)) (opened (headText r ++ (ageIs ++ digits n ++ milliseconds)))
+      ∙ ap (λ (l : List ℕ). opening r ++ l)
+      (sym (append-assoc (headText r) (ageIs ++ digits n) milliseconds) ∙ rw e)
 
-  short-text : formed 2 kindForms r r n 0 ≡ tooShort
-  unfolding formed told piece marked valueOf after width isMark
-  short-text = refl
+  short-text : formed 2 kindForms r r n 0 ≡ opening r ++ tooShort
+  unfolding formed told piece marked valueOf after width isMark counted hexed kindField
+  short-text = opened tooShort
 
-  none-text : formed 3 kindForms r r n 0 ≡ noRequest
-  unfolding formed told piece marked valueOf after width isMark
-  none-text = refl
+  none-text : formed 3 kindForms r r n 0 ≡ opening r ++ noRequest
+  unfolding formed told piece marked valueOf after width isMark counted hexed kindField
+  none-text = opened noRequest
 
   module _ (age : n ≡ wordAt r start) where
     end-of : (t u v : Bool) (k : ℕ) → k ≡ cond t 0 (cond u (cond v 2 1) 3) → 1 < k
-        → formed k kindForms r r n 0 ≡ cond t (plainText r) (cond u (cond v tooShort (agedText r)) noRequest)
+        → formed k kindForms r r n 0 ≡ opening r ++ cond t (plainText r) (cond u (cond v tooShort (agedText r)) noRequest)
     end-of true u v k e l = absurd (omega arith)
     end-of false true true k e l = rw e short-text
     end-of false true false k e l = absurd (omega arith)
@@ -205,18 +240,20 @@ module _ (r : List ℕ) (n : ℕ) where
 
     on-of : (t u v : Bool) (k : ℕ) → k ≡ cond t 0 (cond u (cond v 2 1) 3) → k ≤ 1
         → formed k kindForms r r n 0 ++ wishText r (8 + 2 * k) (headIn r)
-        ≡ cond t (plainText r) (cond u (cond v tooShort (agedText r)) noRequest)
+        ≡ opening r ++ cond t (plainText r) (cond u (cond v tooShort (agedText r)) noRequest)
     unfolding plainText agedText
-    on-of true u v k e l = rw (e, plain-text)
+    on-of true u v k e l = rw (e, plain-text) (append-assoc (opening r) (headText r ++ noAge) (wishText r start (headIn r)))
     on-of false true true k e l = absurd (omega arith)
-    on-of false true false k e l = rw (e, aged-text age)
+    on-of false true false k e l =
+        rw (e, aged-text age)
+        (append-assoc (opening r) (headText r ++ counted ageIs (wordAt r start) ++ milliseconds) (wishText r agedStart (headIn r)))
     on-of false false v k e l = absurd (omega arith)
 
-    pub kind-end : (k : ℕ) → k ≡ kindOf r → 1 < k → formed k kindForms r r n 0 ≡ kindText r
+    pub kind-end : (k : ℕ) → k ≡ kindOf r → 1 < k → formed k kindForms r r n 0 ≡ opening r ++ kindText r
     unfolding kindOf kindText
     kind-end k e l = end-of (eqb (kindField r) requestKind) (eqb (kindField r) agedKind) (ltb (length r) agedStart) k e l
 
-    pub kind-on : (k : ℕ) → k ≡ kindOf r → k ≤ 1 → formed k kindForms r r n 0 ++ wishText r (8 + 2 * k) (headIn r) ≡ kindText r
+    pub kind-on : (k : ℕ) → k ≡ kindOf r → k ≤ 1 → formed k kindForms r r n 0 ++ wishText r (8 + 2 * k) (headIn r) ≡ opening r ++ kindText r
     unfolding kindOf kindText
     kind-on k e l = on-of (eqb (kindField r) requestKind) (eqb (kindField r) agedKind) (ltb (length r) agedStart) k e l
 
@@ -228,18 +265,13 @@ unmarked mark k [] m =
 unmarked mark k (b ∷ l) m =
     rw (ne-eqb k mark (λ e. omega arith), ne-eqb k (suc mark) (λ e. omega arith), unmarked mark (suc k) l (omega arith))
 
-request-text : (r : List ℕ) → formed 0 requestForm r r 0 0 ≡ newline ++ (counted requestIs (length r) ++ hexed bytesKind (kindField r))
-unfolding formed told piece marked valueOf after width isMark counted hexed kindField
-request-text r = refl
-
 request-parts : (n a k w b e : List ℕ) → n ++ a ++ k ++ (w ++ b ++ e) ≡ n ++ (a ++ k ++ w ++ b ++ e)
 request-parts n a k w b e = simp append-assoc
 
-pub request-told : (r : List ℕ) (mark : ℕ) → length r < mark
-    → formed 0 requestForm r r 0 0 ++ kindText r ++ lineText bytesAre mark r ≡ newline ++ requestText r
+request-told : (r : List ℕ) (mark : ℕ) → length r < mark → opening r ++ kindText r ++ lineText bytesAre mark r ≡ newline ++ requestText r
 unfolding requestText lineText
 request-told r mark l =
-    rw (request-text r, unmarked mark 0 r (omega arith))
+    rw (unmarked mark 0 r (omega arith))
     (request-parts newline (counted requestIs (length r) ++ hexed bytesKind (kindField r)) (kindText r) bytesAre (bytesText r) newline)
 
 -- ---- the replies
@@ -318,33 +350,28 @@ module _ (r : List ℕ) (k n : ℕ) (is : n ≡ pointCount r) where
   unfolding lacks
   point-lacking l = rw (← is, le-ltb k n l)
 
-module _ (r : List ℕ) (k : ℕ) where
-  first-of : (t : Bool) → formed (cond t 0 1) pointForms r r k (8 + 2 * k)
-      ≡ counted pointIs k ++ cond t (numbered gap (numberAt r start k)) (gap ++ dash)
+module _ (a b : List ℕ) (k : ℕ) where
+  row-of : (t u : Bool) → formed (cond t 0 1 + 2 * cond u 0 1) rowForms a b k (8 + 2 * k)
+      ≡ counted pointIs k ++ cond t (numbered gap (numberAt a start k)) (gap ++ dash) ++ cond u (numbered bar (numberAt b start k)) (bar ++ dash)
   unfolding formed told piece marked valueOf after width isMark counted numbered numberAt
-  first-of true = two-parts pointIs (digits k) gap (decimal (numberAt r start k)) [] ∙ append-nil _
-  first-of false = refl
+  row-of true true = three-parts pointIs (digits k) gap (decimal (numberAt a start k)) bar (decimal (numberAt b start k)) [] ∙ append-nil _
+  row-of true false = three-parts pointIs (digits k) gap (decimal (numberAt a start k)) bar dash [] ∙ append-nil _
+  row-of false true = three-parts pointIs (digits k) gap dash bar (decimal (numberAt b start k)) [] ∙ append-nil _
+  row-of false false = three-parts pointIs (digits k) gap dash bar dash [] ∙ append-nil _
 
-  second-of : (t : Bool) → formed (cond t 0 1) otherForms r r k (8 + 2 * k) ≡ cond t (numbered bar (numberAt r start k)) (bar ++ dash)
-  unfolding formed told piece marked valueOf after width isMark numbered numberAt
-  second-of true = append-nil (bar ++ decimal (numberAt r start k))
-  second-of false = refl
-
-  pub first-told : (f : ℕ) → f ≡ lacks r k → formed f pointForms r r k (8 + 2 * k) ≡ counted pointIs k ++ pointText gap r k
-  unfolding lacks pointText
-  first-told f e = rw e (first-of (ltb k (pointCount r)))
-
-  pub second-told : (f : ℕ) → f ≡ lacks r k → formed f otherForms r r k (8 + 2 * k) ≡ pointText bar r k
-  unfolding lacks pointText
-  second-told f e = rw e (second-of (ltb k (pointCount r)))
+  row-told : (f g : ℕ) → f ≡ lacks a k → g ≡ lacks b k → formed (f + 2 * g) rowForms a b k (8 + 2 * k) ≡ rowText a b k
+  unfolding lacks rowText pointText
+  row-told f g e h = rw (e, h) (row-of (ltb k (pointCount a)) (ltb k (pointCount b)))
 
 pub rows-all : (a b : List ℕ) (count : ℕ) → rowsText a b 0 (count - 0) ≡ rowsText a b 0 count
 rows-all a b count = let all : count - 0 ≡ count = omega arith in ap (λ (n : ℕ). rowsText a b 0 n) all
 
-pub row-next : (a b : List ℕ) (count k : ℕ) → k < count
-    → rowsText a b k (count - k) ≡ rowText a b k ++ rowsText a b (k + 1) (count - (k + 1))
+pub row-next : (a b : List ℕ) (count k f g : ℕ) → k < count → f ≡ lacks a k → g ≡ lacks b k
+    → rowsText a b k (count - k) ≡ formed (f + 2 * g) rowForms a b k (8 + 2 * k) ++ rowsText a b (k + 1) (count - (k + 1))
 unfolding rowsText
-row-next a b count k l = let more : count - k ≡ suc (count - (k + 1)) = omega arith in rw (more, add-one k)
+row-next a b count k f g l e h =
+    let more : count - k ≡ suc (count - (k + 1)) = omega arith in
+    rw (row-told a b k f g e h, more, add-one k)
 
 pub rows-over : (a b : List ℕ) (count k : ℕ) → count ≤ k → rowsText a b k (count - k) ≡ []
 unfolding rowsText
@@ -438,11 +465,12 @@ module _ (a b : List ℕ) (d : ℕ) (is : d ≡ firstDifference a b) where
 page-parts : (t n r b e : List ℕ) → t ++ (n ++ r) ++ b ++ (n ++ e) ≡ t ++ n ++ r ++ (b ++ n) ++ e
 page-parts t n r b e = simp append-assoc
 
-pub page-told : (number offset : ℕ) (r a b : List ℕ)
-    → titleOf number offset ++ (newline ++ requestText r)
+pub page-told : (number offset : ℕ) (r a b : List ℕ) (mark : ℕ) → length r < mark
+    → titleOf number offset ++ (opening r ++ kindText r) ++ lineText bytesAre mark r
     ++ (headsText a b ++ placesText a b ++ rowsText a b 0 (max (pointCount a) (pointCount b))) ++ (newline ++ endText a b)
     ≡ shownPage number offset r a b
 unfolding shownPage tableText
-page-told number offset r a b =
-    page-parts (titleOf number offset) newline (requestText r)
-    (headsText a b ++ placesText a b ++ rowsText a b 0 (max (pointCount a) (pointCount b))) (endText a b)
+page-told number offset r a b mark l =
+    rw (append-assoc (titleOf number offset) (opening r ++ kindText r) (lineText bytesAre mark r), request-told r mark l)
+    (page-parts (titleOf number offset) newline (requestText r)
+    (headsText a b ++ placesText a b ++ rowsText a b 0 (max (pointCount a) (pointCount b))) (endText a b))

@@ -1,16 +1,14 @@
 // A request in words: its kind, form, degrees, age, control values and path, and its bytes.
 ghost use mathlib.Core.Path.{_≡_};
-ghost use mathlib.Core.Bool.{false};
 ghost use mathlib.Core.List.{_++_};
 ghost use Prim.Native.Nat.{_+_, _*_, _≤_, _<_};
 ghost use lib.ListN.{length};
-ghost use Rattle.request.specs.Head.{surfaceCount, pathCount};
-ghost use Rattle.request.specs.Refusal.{notDegree};
-ghost use Rattle.judgement.specs.Record.{agedStart, headIn, pathStart, bodyEnd};
-ghost use Rattle.page.specs.Page.{Puts};
-ghost use Rattle.shown.specs.Text.{newline, pathIs};
+ghost use Rattle.wire.specs.Start.{kindField};
+ghost use Rattle.judgement.specs.Record.{agedStart, headIn};
+ghost use Rattle.page.specs.Page.{Puts, counted, hexed};
+ghost use Rattle.shown.specs.Text.{newline, requestIs, bytesKind};
 ghost use Rattle.shown.specs.Forms.{kindOf, wishOf};
-ghost use Rattle.shown.specs.Asked.{numbersText, wishText, kindText, requestText};
+ghost use Rattle.shown.specs.Asked.{numbersText, wishText, kindText};
 use page::put;
 use page::put_form;
 use page::put_number;
@@ -42,18 +40,6 @@ fn put_numbers(request: &[u8], from: usize, count: usize, page: &mut [u8], at: u
         k += 1;
     }
     end
-}
-
-// The control values behind their word, and the path.
-fn put_lists(head: Head, request: &[u8], from: usize, page: &mut [u8], at: usize) -> usize
-    requires { ⌜ (notDegree head ≡ false) × (bodyEnd from head ≡ length (now request)) ⌝ }
-    ensures { λ r. ⌜ Puts (now (page .entry)) at (numbersText (now (request .entry)) from 0 (surfaceCount head) ++ pathIs ++ numbersText (now (request .entry)) (pathStart from head) 0 (pathCount head)) (now (page .exit)) r ⌝ }
-{
-    let values = request::surface_count(head);
-    let path = request::path_count(head);
-    let a = put_numbers(request, from, values, page, at);
-    let b = put(b"\n  path in 1/1024:", page, a);
-    put_numbers(request, from + 2 * values, path, page, b)
 }
 
 // Which form: no such form, a degree beyond its bounds, a body of another length, or one as long as the degrees say.
@@ -95,7 +81,11 @@ fn put_wish(request: &[u8], from: usize, page: &mut [u8], at: usize) -> usize
     if k != 3 {
         return a;
     }
-    put_lists(head, request, from, page, a)
+    let values = request::surface_count(head);
+    let path = request::path_count(head);
+    let b = put_numbers(request, from, values, page, a);
+    let c = put(b"\n  path in 1/1024:", page, b);
+    put_numbers(request, from + 2 * values, path, page, c)
 }
 
 // Which form: without an age, with one, too short for one, or no request.
@@ -115,13 +105,14 @@ fn kind_of(request: &[u8]) -> u8
     1
 }
 
-fn put_kind(request: &[u8], page: &mut [u8], at: usize) -> usize
-    ensures { λ r. ⌜ Puts (now (page .entry)) at (kindText (now (request .entry))) (now (page .exit)) r ⌝ }
+// Behind a newline: how many bytes it has, its kind, and what that kind holds.
+pub fn put_kind(request: &[u8], page: &mut [u8], at: usize) -> usize
+    ensures { λ r. ⌜ Puts (now (page .entry)) at (newline ++ (counted requestIs (length (now (request .entry))) ++ hexed bytesKind (kindField (now (request .entry)))) ++ kindText (now (request .entry))) (now (page .exit)) r ⌝ }
 {
     let k = kind_of(request);
     let a = put_form(
         k,
-        b": form #4, degrees #5 #6, N #7, no age;: form #4, degrees #5 #6, N #7, age !1 ms;: too short for an age;: not a request's",
+        b"\nrequest   &1 bytes, kind 0x$2: form #4, degrees #5 #6, N #7, no age;\nrequest   &1 bytes, kind 0x$2: form #4, degrees #5 #6, N #7, age !1 ms;\nrequest   &1 bytes, kind 0x$2: too short for an age;\nrequest   &1 bytes, kind 0x$2: not a request's",
         request,
         request,
         word_at(request, 8),
@@ -133,22 +124,4 @@ fn put_kind(request: &[u8], page: &mut [u8], at: usize) -> usize
         return a;
     }
     put_wish(request, 8 + 2 * k as usize, page, a)
-}
-
-// Behind a newline.
-pub fn put_request(request: &[u8], page: &mut [u8], at: usize) -> usize
-    ensures { λ r. ⌜ Puts (now (page .entry)) at (newline ++ requestText (now (request .entry))) (now (page .exit)) r ⌝ }
-{
-    let a = put_form(
-        0,
-        b"\nrequest   &1 bytes, kind 0x$2",
-        request,
-        request,
-        0,
-        0,
-        page,
-        at,
-    );
-    let b = put_kind(request, page, a);
-    crate::marked::put_line(b"\n  bytes:", request.len() + 1, request, page, b)
 }

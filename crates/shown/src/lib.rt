@@ -30,7 +30,8 @@ pub fn put_page(
     ensures { λ r. ⌜ Puts (now (page .entry)) 0 (shownPage number offset (now (request .entry)) (now (recorded .entry)) (now (today .entry))) (now (page .exit)) r ⌝ }
 {
     let a = entries::put_title(number, offset, page, 0);
-    let b = asked::put_request(request, page, a);
-    let c = replied::put_table(recorded, today, page, b);
-    marked::put_end(recorded, today, page, c)
+    let b = asked::put_kind(request, page, a);
+    let c = marked::put_line(b"\n  bytes:", request.len() + 1, request, page, b);
+    let d = replied::put_table(recorded, today, page, c);
+    marked::put_end(recorded, today, page, d)
 }

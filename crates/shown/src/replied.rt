@@ -6,7 +6,7 @@ ghost use Rattle.names.specs.Names.{nameOf};
 ghost use Rattle.page.specs.Page.{Puts};
 ghost use Rattle.page.specs.Form.{formed};
 ghost use Rattle.shown.specs.Forms.{answerForms, lacks};
-ghost use Rattle.shown.specs.Replied.{pointCount, answerText, headsText, placesText, rowText, rowsText};
+ghost use Rattle.shown.specs.Replied.{pointCount, answerText, headsText, placesText, rowsText};
 use crate::larger;
 use page::front;
 use page::put;
@@ -71,7 +71,7 @@ fn put_answer(reply: &[u8], page: &mut [u8], at: usize) -> usize
 
 // Whether a reply lacks point k.
 fn lacks_point(reply: &[u8], k: usize) -> u8
-    ensures { λ r. ⌜ r ≡ lacks (now (reply .entry)) k ⌝ }
+    ensures { λ r. ⌜ (r ≡ lacks (now (reply .entry)) k) × (r < 2) ⌝ }
 {
     if k < points(reply) {
         return 0;
@@ -79,26 +79,7 @@ fn lacks_point(reply: &[u8], k: usize) -> u8
     1
 }
 
-// A reply that has no such point has a dash.
-fn put_row(a: &[u8], b: &[u8], k: usize, page: &mut [u8], at: usize) -> usize
-    requires { ⌜ k < 256 ⌝ }
-    ensures { λ r. ⌜ Puts (now (page .entry)) at (rowText (now (a .entry)) (now (b .entry)) k) (now (page .exit)) r ⌝ }
-{
-    let n = k as u64;
-    let m = 8 + 2 * n;
-    let c = put_form(
-        lacks_point(a, k),
-        b"\n  point !1  %1;\n  point !1  -",
-        a,
-        a,
-        n,
-        m,
-        page,
-        at,
-    );
-    put_form(lacks_point(b, k), b" | %1; | -", b, b, n, m, page, c)
-}
-
+// A row for each point; a reply that has no such point has a dash.
 fn put_rows(a: &[u8], b: &[u8], count: usize, page: &mut [u8], at: usize) -> usize
     requires { ⌜ count ≤ 256 ⌝ }
     ensures { λ r. ⌜ Puts (now (page .entry)) at (rowsText (now (a .entry)) (now (b .entry)) 0 count) (now (page .exit)) r ⌝ }
@@ -106,7 +87,16 @@ fn put_rows(a: &[u8], b: &[u8], count: usize, page: &mut [u8], at: usize) -> usi
     let mut end = at;
     let mut k = 0;
     while k < count {
-        end = put_row(a, b, k, page, end);
+        end = put_form(
+            lacks_point(a, k) + 2 * lacks_point(b, k),
+            b"\n  point !1  %1 | %A;\n  point !1  - | %A;\n  point !1  %1 | -;\n  point !1  - | -",
+            a,
+            b,
+            k as u64,
+            8 + 2 * k as u64,
+            page,
+            end,
+        );
         k += 1;
     }
     end

@@ -1,5 +1,5 @@
 -- `page::form::put_form` meets its contract. Assumes nothing.
-use Prim.Native.Nat.{_-_, _*_}
+use Prim.Native.Nat.{_-_}
 use native.Mathlib.Omega.{arith}
 use lib.ListN.{length, drop}
 use Rattle.page.specs.Form.{told, formed}

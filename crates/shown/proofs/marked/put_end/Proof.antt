@@ -1,5 +1,4 @@
 -- `shown::marked::put_end` meets its contract. Assumes nothing.
-use native.Mathlib.Omega.{arith}
 use Rattle.page.proofs.Putting.{puts-then, puts-same}
 use Rattle.shown.proofs.Telling.{in-neither, in-either}
 use borrow.Author.Needs.{needs}

@@ -9,10 +9,10 @@ points-requires : tie.Need-points-requires
 points-requires c κs = search needs
 
 returns : tie.Need-returns
-returns c = point-there _ _ _ (c .before .points .ensures .0) (omega arith)
+returns c = (point-there _ _ _ (c .before .points .ensures .0) (omega arith), omega arith)
 
 returns-2 : tie.Need-returns-2
-returns-2 c = point-lacking _ _ _ (c .before .points .ensures .0) (omega arith)
+returns-2 c = (point-lacking _ _ _ (c .before .points .ensures .0) (omega arith), omega arith)
 
 pub lacks-point-spec : {M : Type 1} → statement M
 lacks-point-spec = tie.close (tie.spec points-requires returns returns-2)
