@@ -1,5 +1,6 @@
 // Rule Patches on patches (02, ticket 8): the public entry. A patch is judged whole before anything is written; an accepted one has
 // its exact numerators, one signed number each, and its rounded points written to the two lent arrays in 01's triangular order.
+mod patch_judge;
 mod patch_sums;
 
 ghost use mathlib.Core.Path.{_≡_};
@@ -84,7 +85,7 @@ pub fn patch(
     ensures { λ a. ⌜ Patched (patchOf n N (now (surface .entry)) (now (path .entry)))
         (now (exact .entry)) (now (points .entry)) a (now (exact .exit)) (now (points .exit)) ⌝ }
 {
-    let answer = patch_judge::judge(n, N, surface, path, exact.len(), points.len());
+    let answer = crate::patch_judge::judge(n, N, surface, path, exact.len(), points.len());
     if answer.number != 0 {
         return answer;
     }

@@ -70,7 +70,7 @@ fn fill(N: usize, path: &[i32], t: &mut [u32; 40])
     requires { ⌜ (N ≤ mostDegree) × (parameterPlace (now path) ≡ length (now path)) × (length (now t) ≡ 40) ⌝ }
     ensures { λ _. ⌜ Filled N (now (path .entry)) (now (t .exit)) ⌝ }
 {
-    let count = patch_judge::places(N);
+    let count = crate::patch_judge::places(N);
     let mut at = Place { i: 0, j: 0, k: N };
     let mut c = 0;
     while c < count {
@@ -93,5 +93,5 @@ pub fn numerators(n: usize, N: usize, surface: &[i32], path: &[i32], sums: &mut 
     }
     let mut t = [0u32; 40];
     fill(N, path, &mut t);
-    sums::triangle(&t, patch_judge::places(N), surface, n, sums);
+    sums::triangle(&t, crate::patch_judge::places(N), surface, n, sums);
 }

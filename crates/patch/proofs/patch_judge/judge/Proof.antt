@@ -16,8 +16,8 @@ use Rattle.judge.specs.Places.{numberTests}
 use Rattle.patch_net.specs.Patch.{Patch, patchOf, longest, places}
 use Rattle.patch_net.specs.Refusal.{notDegree, notSurface, notPath, notRoom, notValue, notParameter, balancePlace, notBalance, refusals, accepted, answer}
 use Rattle.patch_net.proofs.Standing.{places-few}
-use Rattle.patch_judge.proofs.judge.Statement.{statement}
-use Rattle.patch_judge.proofs.judge.Tie as tie
+use Rattle.patch.proofs.patch_judge.judge.Statement.{statement}
+use Rattle.patch.proofs.patch_judge.judge.Tie as tie
 
 abbrev asked : tie.Start → Patch
 asked s = patchOf (s .args .n) (s .args .N) (s .args .surface .now) (s .args .path .now)

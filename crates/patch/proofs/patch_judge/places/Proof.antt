@@ -4,8 +4,8 @@ use native.Mathlib.Nat.{mul-le-mul}
 use native.Mathlib.Omega.{arith}
 use borrow.Author.Needs.{needs}
 use Rattle.patch_net.specs.Patch.{places}
-use Rattle.patch_judge.proofs.places.Statement.{statement}
-use Rattle.patch_judge.proofs.places.Tie as tie
+use Rattle.patch.proofs.patch_judge.places.Statement.{statement}
+use Rattle.patch.proofs.patch_judge.places.Tie as tie
 
 add-result : tie.Need-add-result
 add-result c = search needs
