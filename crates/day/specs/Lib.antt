@@ -2,3 +2,4 @@
 pub mod Telling
 pub mod daily
 pub mod sheet_lines
+pub mod sheets

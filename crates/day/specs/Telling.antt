@@ -3,7 +3,7 @@
 use Rattle.reading.specs.Parts.{Tells}
 use Rattle.streams.specs.declared.Stream.{Stream}
 use Rattle.pairs.specs.Cut.{longestRecord}
-use Rattle.sheets.specs.Sheet.{sheetIn}
+use Rattle.day.specs.sheets.Sheet.{sheetIn}
 use Rattle.day.specs.sheet_lines.Lines.{sheetLines}
 use Rattle.day.specs.declared.Told.{Told}
 

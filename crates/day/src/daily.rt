@@ -6,11 +6,11 @@ ghost use Prim.Native.Nat.{_≤_};
 ghost use lib.ListN.{length};
 ghost use Rattle.pairs.specs.Cut.{longestRecord};
 ghost use Rattle.feed.specs.Feed.{given};
-ghost use Rattle.sheets.specs.Sheet.{noSpan, sheetIn};
-ghost use Rattle.sheets.specs.Fold.{adds};
+ghost use Rattle.day.specs.sheets.Sheet.{noSpan, sheetIn};
+ghost use Rattle.day.specs.sheets.Fold.{adds};
 ghost use Rattle.day.specs.daily.Read.{blankState, afterPart};
-use sheets::Sheet;
-use sheets::Span;
+use crate::sheets::Sheet;
+use crate::sheets::Span;
 
 // The bytes of the pair that is not whole yet, with zeros behind them; how many bytes there are from its start on; and the sheet of
 // the pairs before it.
@@ -28,7 +28,7 @@ fn gather(sheet: Sheet, held: &[u8], size: usize) -> Sheet
     if size == 0 {
         return sheet;
     }
-    sheets::with_pair(sheet, &held[..size])
+    crate::sheets::with_pair(sheet, &held[..size])
 }
 
 // The span of no points.

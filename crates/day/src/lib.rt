@@ -2,13 +2,14 @@
 // what was written is the sheet of the bytes that were read.
 pub mod daily;
 mod sheet_lines;
+pub mod sheets;
 
 ghost use Rattle.reading.specs.Parts.{Took};
 ghost use Rattle.day.specs.daily.Read.{afterPart};
 ghost use Rattle.day.specs.Telling.{Sheets};
 use crate::daily::State;
+use crate::sheets::Sheet;
 use progress::Progress;
-use sheets::Sheet;
 use streams::Stream;
 
 // The input and the state behind a part, and how many bytes came.

@@ -4,8 +4,8 @@ ghost use Prim.Native.Nat.{_+_, _*_, _≤_};
 ghost use lib.ListN.{length};
 ghost use Rattle.spell.specs.Decimal.{Written};
 ghost use Rattle.day.specs.sheet_lines.Lines.{refusalLine, refusalLines, valueOf, pointLine, sheetLines, refusalRoom, linesRoom, Told};
-use sheets::Sheet;
-use sheets::Span;
+use crate::sheets::Sheet;
+use crate::sheets::Span;
 use whole::Num;
 
 fn least_of(span: Span) -> Num

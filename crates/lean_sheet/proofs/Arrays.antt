@@ -4,7 +4,7 @@ use mathlib.Core.Bool.{Bool, cond}
 use mathlib.Core.List.{List, [], _∷_}
 use Prim.Native.Nat.{ℕ}
 use lib.IntN.{ℤ}
-use Rattle.sheets.specs.declared.Span.{Span}
+use Rattle.day.specs.declared.sheets.Span.{Span}
 use Rattle.day.specs.declared.daily.State.{State}
 use Rattle.lean_sheet.specs.Fed.{countsOf, spanOf, Holds}
 

@@ -6,7 +6,7 @@ use Prim.Native.Nat.{ℕ}
 use lib.Dec.{eqb}
 use lib.IntN.{ℤ, pos}
 use lib.ListN.{getD}
-use Rattle.sheets.specs.declared.Span.{Span}
+use Rattle.day.specs.declared.sheets.Span.{Span}
 use Rattle.day.specs.declared.daily.State.{State}
 use Rattle.day.specs.daily.Read.{afterPart}
 

@@ -4,8 +4,8 @@ ghost use mathlib.Core.Path.{_≡_};
 ghost use mathlib.Core.Bool.{cond};
 ghost use Rattle.lean_sheet.specs.Fed.{spanIn, stateIn, countsOf, spanOf, Fed};
 use day::daily::State;
-use sheets::Sheet;
-use sheets::Span;
+use day::sheets::Sheet;
+use day::sheets::Span;
 
 fn span_in(counts: &[u64; 3], span: &[i64; 2]) -> Span
     ensures { λ r. ⌜ r ≡ spanIn (now (counts .entry)) (now (span .entry)) ⌝ }

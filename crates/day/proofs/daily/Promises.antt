@@ -6,8 +6,8 @@ use Prim.Native.Nat.{ℕ}
 use Rattle.whole.proofs.Determined.{Determined}
 use Rattle.pairs.specs.Cut.{longestRecord}
 use Rattle.feed.specs.Parts.{uncut, afterAll}
-use Rattle.sheets.specs.declared.Sheet.{Sheet}
-use Rattle.sheets.specs.Sheet.{sheetIn}
+use Rattle.day.specs.declared.sheets.Sheet.{Sheet}
+use Rattle.day.specs.sheets.Sheet.{sheetIn}
 use Rattle.day.specs.declared.daily.State.{State}
 use Rattle.day.specs.daily.Read.{blankState, afterPart}
 use Rattle.day.proofs.daily.Reading.{sheet-of-all, state-of-parts}

@@ -9,10 +9,10 @@ use Rattle.feed.specs.Feed.{Feed, heldOf, feedIn, feedOf as fedOf}
 use Rattle.feed.specs.Parts.{uncut, afterAll}
 use Rattle.feed.proofs.Reading.{Proper, held-again}
 use Rattle.feed.proofs.Readers.{at-once, in-parts}
-use Rattle.sheets.specs.declared.Sheet.{Sheet}
-use Rattle.sheets.specs.Sheet.{sheetIn}
-use Rattle.sheets.specs.Fold.{adds, noSheet}
-use Rattle.sheets.proofs.Adding.{folded-sheet}
+use Rattle.day.specs.declared.sheets.Sheet.{Sheet}
+use Rattle.day.specs.sheets.Sheet.{sheetIn}
+use Rattle.day.specs.sheets.Fold.{adds, noSheet}
+use Rattle.day.proofs.sheets.Adding.{folded-sheet}
 use Rattle.day.specs.declared.daily.State.{State}
 use Rattle.day.specs.daily.Read.{feedOf, stateOf, blankState, afterPart}
 

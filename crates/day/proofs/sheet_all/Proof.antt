@@ -3,7 +3,7 @@ use mathlib.Core.Path.{refl}
 use native.Mathlib.Omega.{arith}
 use lib.ListN.{length-take}
 use Rattle.pairs.specs.Cut.{longestRecord}
-use Rattle.sheets.specs.Sheet.{sheetIn}
+use Rattle.day.specs.sheets.Sheet.{sheetIn}
 use Rattle.day.specs.sheet_lines.Lines.{sheetLines, linesRoom}
 use Rattle.day.specs.declared.daily.State.{State}
 use Rattle.day.specs.daily.Read.{blankState, afterPart}

@@ -3,7 +3,7 @@ use mathlib.Core.List.{List}
 use Prim.Native.Nat.{ℕ}
 use Rattle.whole.proofs.Determined.{Determined}
 use Rattle.spell.proofs.Determined.{told-determined}
-use Rattle.sheets.specs.declared.Sheet.{Sheet}
+use Rattle.day.specs.declared.sheets.Sheet.{Sheet}
 use Rattle.day.specs.sheet_lines.Lines.{sheetLines, linesRoom, Told}
 
 -- how many bytes were written, and the buffer

@@ -5,8 +5,8 @@ use Prim.Native.Nat.{ℕ}
 use Rattle.pairs.specs.Cut.{longestRecord}
 use Rattle.feed.specs.Feed.{Feed, blank, stepped, heldOf, feedIn}
 use Rattle.feed.specs.Parts.{fed}
-use Rattle.sheets.specs.declared.Sheet.{Sheet}
-use Rattle.sheets.specs.Fold.{adds, noSheet}
+use Rattle.day.specs.declared.sheets.Sheet.{Sheet}
+use Rattle.day.specs.sheets.Fold.{adds, noSheet}
 use Rattle.day.specs.declared.daily.State.{State}
 
 -- what a byte does

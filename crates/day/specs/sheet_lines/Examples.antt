@@ -4,8 +4,8 @@ use mathlib.Core.List.{[], _∷_, _++_}
 use Rattle.spell.specs.Decimal.{digitsOf, digits, decimal, named}
 use Rattle.pairs.specs.Cut.{longestRecord, cutIn, cut}
 use Rattle.feed.specs.Feed.{howMany}
-use Rattle.sheets.specs.Sheet.{inTurn, points, widenedAll, sheetOf, sheetIn}
-use Rattle.sheets.specs.Examples.{itsSheet}
+use Rattle.day.specs.sheets.Sheet.{inTurn, points, widenedAll, sheetOf, sheetIn}
+use Rattle.day.specs.sheets.Examples.{itsSheet}
 use Rattle.day.specs.sheet_lines.Lines.{refusalLine, refusalLines, valueOf, pointLine, sheetLines}
 
 pub its-lines : sheetLines itsSheet

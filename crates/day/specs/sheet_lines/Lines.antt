@@ -4,7 +4,7 @@ use mathlib.Core.List.{List, [], _∷_, _++_}
 use Prim.Native.Nat.{ℕ, suc}
 use lib.IntN.{ℤ}
 use Rattle.spell.specs.Decimal.{digits, decimal, named, Told as ToldOf}
-use Rattle.sheets.specs.declared.Sheet.{Sheet}
+use Rattle.day.specs.declared.sheets.Sheet.{Sheet}
 
 -- `refusal n`, how many, and a newline
 unfoldable pub refusalLine : ℕ → ℕ → List ℕ

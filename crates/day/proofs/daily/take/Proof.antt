@@ -7,7 +7,7 @@ use lib.ListN.{length, length-take, length-drop}
 use Rattle.feed.specs.Feed.{feedIn}
 use Rattle.feed.proofs.Parts.{Passed, none-passed, all-passed}
 use Rattle.feed.proofs.Reading.{turn-passed, handed-long}
-use Rattle.sheets.specs.Fold.{adds}
+use Rattle.day.specs.sheets.Fold.{adds}
 use Rattle.day.specs.daily.Read.{step, afterPart}
 use Rattle.day.proofs.daily.Reading.{state-is}
 use Rattle.day.proofs.daily.take.Statement.{statement}

@@ -1,9 +1,9 @@
 -- `sheets::greater` meets its contract. Assumes nothing.
 use mathlib.Core.Path.{sym, _∙_}
-use Rattle.sheets.specs.Sheet.{greater}
+use Rattle.day.specs.sheets.Sheet.{greater}
 use borrow.Author.Needs.{needs}
-use Rattle.sheets.proofs.greater.Statement.{statement}
-use Rattle.sheets.proofs.greater.Tie as tie
+use Rattle.day.proofs.sheets.greater.Statement.{statement}
+use Rattle.day.proofs.sheets.greater.Tie as tie
 
 less-requires : tie.Need-less-requires
 less-requires c κs = search needs

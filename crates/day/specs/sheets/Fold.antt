@@ -6,8 +6,8 @@ use lib.Dec.{ltb}
 use lib.ListN.{getD, set, replicate}
 use Rattle.pairs.specs.Cut.{Pair}
 use Rattle.feed.specs.Feed.{capped}
-use Rattle.sheets.specs.declared.Sheet.{Sheet}
-use Rattle.sheets.specs.Sheet.{numberOf, greatest, isOdd, pointsIn, widenedAll, noSpan}
+use Rattle.day.specs.declared.sheets.Sheet.{Sheet}
+use Rattle.day.specs.sheets.Sheet.{numberOf, greatest, isOdd, pointsIn, widenedAll, noSpan}
 
 -- one more of a number, where there is a place for it
 unfoldable pub countedUp : List ℕ → ℕ → List ℕ

@@ -1,7 +1,7 @@
 -- `sheets::counts_refused` meets its contract. Assumes nothing.
 use borrow.Author.Tests.{eq-eqb, ne-eqb}
-use Rattle.sheets.proofs.counts_refused.Statement.{statement}
-use Rattle.sheets.proofs.counts_refused.Tie as tie
+use Rattle.day.proofs.sheets.counts_refused.Statement.{statement}
+use Rattle.day.proofs.sheets.counts_refused.Tie as tie
 
 returns : tie.Need-returns
 returns c = rw (eq-eqb _ _ (c .if1 .taken))

@@ -1,10 +1,10 @@
 -- `sheets::widen_all` meets its contract: each turn takes one point. Assumes nothing.
 use Prim.Native.Nat.{_-_, _≤_}
 use native.Mathlib.Omega.{arith}
-use Rattle.sheets.proofs.Leaves.{Widening, widening-none, widening-more, widening-all}
+use Rattle.day.proofs.sheets.Leaves.{Widening, widening-none, widening-more, widening-all}
 use borrow.Author.Needs.{needs}
-use Rattle.sheets.proofs.widen_all.Statement.{statement}
-use Rattle.sheets.proofs.widen_all.Tie as tie
+use Rattle.day.proofs.sheets.widen_all.Statement.{statement}
+use Rattle.day.proofs.sheets.widen_all.Tie as tie
 
 abbrev Inv-loop : tie.InvT-loop
 Inv-loop reply count next₀ k₀ next k = (k ≤ count) × Widening reply next₀ count next k

@@ -1,9 +1,9 @@
 -- `sheets::lesser` meets its contract. Assumes nothing.
 use mathlib.Core.Path.{sym, _∙_}
-use Rattle.sheets.specs.Sheet.{lesser}
+use Rattle.day.specs.sheets.Sheet.{lesser}
 use borrow.Author.Needs.{needs}
-use Rattle.sheets.proofs.lesser.Statement.{statement}
-use Rattle.sheets.proofs.lesser.Tie as tie
+use Rattle.day.proofs.sheets.lesser.Statement.{statement}
+use Rattle.day.proofs.sheets.lesser.Tie as tie
 
 less-requires : tie.Need-less-requires
 less-requires c κs = search needs

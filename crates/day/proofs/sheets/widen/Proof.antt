@@ -3,10 +3,10 @@ use mathlib.Core.Path.{_≡_, _∙_}
 use mir.Syntax.{w64}
 use mir.Val.{toZ, ofZ}
 use borrow.Author.Tests.{not-true, not-false}
-use Rattle.sheets.proofs.Leaves.{widen-none, widen-some}
+use Rattle.day.proofs.sheets.Leaves.{widen-none, widen-some}
 use borrow.Author.Needs.{needs}
-use Rattle.sheets.proofs.widen.Statement.{statement}
-use Rattle.sheets.proofs.widen.Tie as tie
+use Rattle.day.proofs.sheets.widen.Statement.{statement}
+use Rattle.day.proofs.sheets.widen.Tie as tie
 
 returns : tie.Need-returns
 returns c = widen-none _ _ _ _ (not-true _ (c .before .if1 .taken)) (search needs) (search needs)

@@ -1,11 +1,11 @@
 -- `sheets::with_pair` meets its contract: a pair's reply. Assumes nothing.
 use mathlib.Core.Path.{ap, _∙_}
 use Rattle.wire.specs.Start.{recordIn}
-use Rattle.sheets.specs.Fold.{withReply}
-use Rattle.sheets.proofs.Leaves.{adds-is}
+use Rattle.day.specs.sheets.Fold.{withReply}
+use Rattle.day.proofs.sheets.Leaves.{adds-is}
 use borrow.Author.Needs.{needs}
-use Rattle.sheets.proofs.with_pair.Statement.{statement}
-use Rattle.sheets.proofs.with_pair.Tie as tie
+use Rattle.day.proofs.sheets.with_pair.Statement.{statement}
+use Rattle.day.proofs.sheets.with_pair.Tie as tie
 
 behind-requires : tie.Need-behind-requires
 behind-requires c κs = search needs

@@ -4,8 +4,8 @@ use mathlib.Core.List.{List}
 use Prim.Native.Nat.{ℕ}
 use Rattle.whole.proofs.Determined.{Determined}
 use Rattle.pairs.specs.Cut.{pairIn}
-use Rattle.sheets.specs.declared.Sheet.{Sheet}
-use Rattle.sheets.specs.Fold.{adds}
+use Rattle.day.specs.declared.sheets.Sheet.{Sheet}
+use Rattle.day.specs.sheets.Fold.{adds}
 
 pub pair-determined : (sheet : Sheet) (pair : List ℕ) → Determined (λ (r : Sheet). r ≡ adds sheet (pairIn pair))
 pair-determined sheet pair = record { value = _; only = λ r e. e }

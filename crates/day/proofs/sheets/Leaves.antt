@@ -12,10 +12,10 @@ use Rattle.wire.specs.Words.{wordAt, numberAt}
 use Rattle.wire.specs.Start.{kindField, start, recordIn, behind}
 use Rattle.replies.specs.Reply.{replyKind}
 use Rattle.pairs.specs.Cut.{pairIn}
-use Rattle.sheets.specs.declared.Span.{Span}
-use Rattle.sheets.specs.declared.Sheet.{Sheet}
-use Rattle.sheets.specs.Sheet.{inTurn, numberOf, countOf, isOdd, pointsIn, lesser, greater, widened, widenedAll}
-use Rattle.sheets.specs.Fold.{withReply, adds}
+use Rattle.day.specs.declared.sheets.Span.{Span}
+use Rattle.day.specs.declared.sheets.Sheet.{Sheet}
+use Rattle.day.specs.sheets.Sheet.{inTurn, numberOf, countOf, isOdd, pointsIn, lesser, greater, widened, widenedAll}
+use Rattle.day.specs.sheets.Fold.{withReply, adds}
 
 module _ (reply : List ℕ) (kind : ℕ) (e : kind ≡ wordAt reply 2) where
   pub odd-kind : (kind ≡ replyKind → ⊥) → true ≡ isOdd reply

@@ -1,10 +1,10 @@
 -- `sheets::is_odd` meets its contract: its tests in the definition's order. Assumes nothing.
 use mathlib.Core.Path.{_∙_}
 use native.Mathlib.Omega.{arith}
-use Rattle.sheets.proofs.Leaves.{odd-kind, odd-number, odd-length, refusal-count}
+use Rattle.day.proofs.sheets.Leaves.{odd-kind, odd-number, odd-length, refusal-count}
 use borrow.Author.Needs.{needs}
-use Rattle.sheets.proofs.is_odd.Statement.{statement}
-use Rattle.sheets.proofs.is_odd.Tie as tie
+use Rattle.day.proofs.sheets.is_odd.Statement.{statement}
+use Rattle.day.proofs.sheets.is_odd.Tie as tie
 
 word-at-requires : tie.Need-word-at-requires
 word-at-requires c κs = search needs

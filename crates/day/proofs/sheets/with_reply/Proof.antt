@@ -1,8 +1,8 @@
 -- `sheets::with_reply` meets its contract. Assumes nothing.
-use Rattle.sheets.specs.Fold.{withReply}
+use Rattle.day.specs.sheets.Fold.{withReply}
 use borrow.Author.Needs.{needs}
-use Rattle.sheets.proofs.with_reply.Statement.{statement}
-use Rattle.sheets.proofs.with_reply.Tie as tie
+use Rattle.day.proofs.sheets.with_reply.Statement.{statement}
+use Rattle.day.proofs.sheets.with_reply.Tie as tie
 
 is-odd-requires : tie.Need-is-odd-requires
 is-odd-requires c κs = search needs

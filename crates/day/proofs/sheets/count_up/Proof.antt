@@ -1,9 +1,9 @@
 -- `sheets::count_up` meets its contract. Assumes nothing.
 use borrow.Author.Tests.{lt-ltb, le-ltb}
-use Rattle.sheets.specs.Fold.{countedUp}
+use Rattle.day.specs.sheets.Fold.{countedUp}
 use borrow.Author.Needs.{needs}
-use Rattle.sheets.proofs.count_up.Statement.{statement}
-use Rattle.sheets.proofs.count_up.Tie as tie
+use Rattle.day.proofs.sheets.count_up.Statement.{statement}
+use Rattle.day.proofs.sheets.count_up.Tie as tie
 
 mul-more : tie.Need-mul-more
 mul-more c = search needs

@@ -12,8 +12,8 @@ use Rattle.wire.specs.Start.{kindField, start}
 use Rattle.replies.specs.Reply.{replyKind}
 use Rattle.pairs.specs.Cut.{Pair, cut}
 use Rattle.feed.specs.Feed.{capped, howMany}
-use Rattle.sheets.specs.declared.Span.{Span}
-use Rattle.sheets.specs.declared.Sheet.{Sheet}
+use Rattle.day.specs.declared.sheets.Span.{Span}
+use Rattle.day.specs.declared.sheets.Sheet.{Sheet}
 
 -- f k, f (k + 1) and so on, so many of them
 unfoldable pub inTurn : {A : Type 0} → (ℕ → A) → ℕ → ℕ → List A

@@ -1,8 +1,8 @@
 -- `sheets::point_at` meets its contract. Assumes nothing.
 use Rattle.wire.specs.Words.{numberAt}
 use borrow.Author.Needs.{needs}
-use Rattle.sheets.proofs.point_at.Statement.{statement}
-use Rattle.sheets.proofs.point_at.Tie as tie
+use Rattle.day.proofs.sheets.point_at.Statement.{statement}
+use Rattle.day.proofs.sheets.point_at.Tie as tie
 
 mul-number-at : tie.Need-mul-number-at
 mul-number-at c = search needs

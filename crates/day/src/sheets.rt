@@ -8,8 +8,8 @@ ghost use lib.Signed.{ltZ};
 ghost use Rattle.wire.specs.Words.{numberAt};
 ghost use Rattle.wire.specs.Start.{start};
 ghost use Rattle.pairs.specs.Cut.{pairIn};
-ghost use Rattle.sheets.specs.Sheet.{isOdd, pointsIn, lesser as lesserOf, greater as greaterOf, widened, widenedAll};
-ghost use Rattle.sheets.specs.Fold.{countedUp, withReply, adds};
+ghost use Rattle.day.specs.sheets.Sheet.{isOdd, pointsIn, lesser as lesserOf, greater as greaterOf, widened, widenedAll};
+ghost use Rattle.day.specs.sheets.Fold.{countedUp, withReply, adds};
 use whole::Num;
 
 // The least and the most of accepted points, where there are any.

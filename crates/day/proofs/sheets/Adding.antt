@@ -14,11 +14,11 @@ use Rattle.replies.specs.Reply.{replyKind}
 use Rattle.pairs.specs.Cut.{Pair}
 use Rattle.feed.specs.Feed.{capped, folded, howMany}
 use Rattle.feed.proofs.Reading.{folded-is, how-many-more}
-use Rattle.sheets.specs.declared.Span.{Span}
-use Rattle.sheets.specs.declared.Sheet.{Sheet}
-use Rattle.sheets.specs.Sheet.{inTurn, numberOf, greatest, isOdd, pointsIn, oddPair, ofNumber, pointsOf, points}
-use Rattle.sheets.specs.Sheet.{widened, widenedAll, noSpan, sheetOf}
-use Rattle.sheets.specs.Fold.{countedUp, withReply, adds, noSheet}
+use Rattle.day.specs.declared.sheets.Span.{Span}
+use Rattle.day.specs.declared.sheets.Sheet.{Sheet}
+use Rattle.day.specs.sheets.Sheet.{inTurn, numberOf, greatest, isOdd, pointsIn, oddPair, ofNumber, pointsOf, points}
+use Rattle.day.specs.sheets.Sheet.{widened, widenedAll, noSpan, sheetOf}
+use Rattle.day.specs.sheets.Fold.{countedUp, withReply, adds, noSheet}
 
 -- ---- a count, one pair more
 

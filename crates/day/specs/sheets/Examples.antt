@@ -8,9 +8,9 @@ use Rattle.wire.specs.Words.{wordAt, signed, numberAt}
 use Rattle.wire.specs.Start.{lengthField, kindField, isLength, startsRecord, recordIn, behind}
 use Rattle.pairs.specs.Cut.{longestRecord, startsPair, pairIn, cutIn, cut}
 use Rattle.feed.specs.Feed.{howMany}
-use Rattle.sheets.specs.declared.Sheet.{Sheet}
-use Rattle.sheets.specs.Sheet.{inTurn, pointsIn, isOdd, oddPair, ofNumber, pointsOf, points}
-use Rattle.sheets.specs.Sheet.{lesser, greater, widened, widenedAll, sheetOf, sheetIn}
+use Rattle.day.specs.declared.sheets.Sheet.{Sheet}
+use Rattle.day.specs.sheets.Sheet.{inTurn, pointsIn, isOdd, oddPair, ofNumber, pointsOf, points}
+use Rattle.day.specs.sheets.Sheet.{lesser, greater, widened, widenedAll, sheetOf, sheetIn}
 
 -- a request, of which only its length counts here
 unfoldable pub asked : List ℕ
