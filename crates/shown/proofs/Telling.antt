@@ -23,7 +23,7 @@ use Rattle.page.specs.Page.{counted, numbered, hexed, byteShown}
 use Rattle.page.specs.Form.{isMark, width, after, valueOf, marked, piece, told, formed}
 use Rattle.page.proofs.Putting.{Onward, onward-none}
 use Rattle.page.proofs.Forming.{three-parts, four-parts}
-use Rattle.entries.specs.Entry.{titleOf, firstDifference}
+use Rattle.shown.specs.entries.Entry.{titleOf, firstDifference}
 use Rattle.shown.specs.Text.{newline, blank, bar, dash, gap, formIs, degreesAre, NIs, ageIs, milliseconds, noAge, requestIs, bytesKind, bytesAre}
 use Rattle.shown.specs.Text.{tooShort, noRequest, noForm, noDegree, otherBody, valuesAre, pathIs, replyIs, sizes, kinds, barKind, answersAre}
 use Rattle.shown.specs.Text.{placesAre, countsAre, pointIs, theSame, recordedIs, todayIs, differAt, fromNought}

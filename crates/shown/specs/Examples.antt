@@ -8,7 +8,7 @@ use Rattle.wire.specs.Start.{kindField}
 use Rattle.spell.specs.Decimal.{digitsOf, digits, decimal}
 use Rattle.judgement.specs.Record.{headIn, pathStart, bodyEnd}
 use Rattle.page.specs.Page.{counted, numbered, hexDigit, hexed, byteShown}
-use Rattle.entries.specs.Entry.{titleOf, firstDifference}
+use Rattle.shown.specs.entries.Entry.{titleOf, firstDifference}
 use Rattle.shown.specs.Asked.{headText, numbersText, listsText, bodyText, wishText, agedText, kindText, bytesText, requestText}
 use Rattle.shown.specs.Replied.{pointCount, answerText, answersText, bothText, headsText, placesText, pointText, rowText, rowsText, tableText}
 use Rattle.shown.specs.Replied.{gapOf, lastText, markedText, lineText, marksText, endText}

@@ -5,3 +5,4 @@ pub mod Replied
 pub mod Forms
 pub mod Page
 pub mod Examples
+pub mod entries

@@ -1,7 +1,7 @@
 -- The page of a pair: where it is, the request, the two replies side by side, and where they differ. Assumes nothing.
 use mathlib.Core.List.{List, _++_}
 use Prim.Native.Nat.{ℕ}
-use Rattle.entries.specs.Entry.{titleOf}
+use Rattle.shown.specs.entries.Entry.{titleOf}
 use Rattle.shown.specs.Text.{newline}
 use Rattle.shown.specs.Asked.{requestText}
 use Rattle.shown.specs.Replied.{tableText, endText}

@@ -9,7 +9,7 @@ use Rattle.wire.specs.Start.{kindField, start}
 use Rattle.replies.specs.Reply.{replyKind}
 use Rattle.names.specs.Names.{nameOf}
 use Rattle.page.specs.Page.{counted, numbered, hexed, byteShown}
-use Rattle.entries.specs.Entry.{firstDifference}
+use Rattle.shown.specs.entries.Entry.{firstDifference}
 use Rattle.shown.specs.Text.{newline, blank, bar, dash, replyIs, sizes, kinds, barKind, answersAre, placesAre, countsAre, pointIs, gap}
 use Rattle.shown.specs.Text.{accepted, refusedBy, noReply, theSame, recordedIs, todayIs, differAt, fromNought, closeMark, emptyMark}
 

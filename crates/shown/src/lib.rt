@@ -1,6 +1,7 @@
 // A pair in words: where it is, the request, the recorded reply beside today's, and their bytes. The page is bytes by definition; no
 // public function asks anything of its caller.
 mod asked;
+pub mod entries;
 mod marked;
 mod replied;
 
@@ -29,7 +30,7 @@ pub fn put_page(
 ) -> usize
     ensures { λ r. ⌜ Puts (now (page .entry)) 0 (shownPage number offset (now (request .entry)) (now (recorded .entry)) (now (today .entry))) (now (page .exit)) r ⌝ }
 {
-    let a = entries::put_title(number, offset, page, 0);
+    let a = crate::entries::put_title(number, offset, page, 0);
     let b = asked::put_kind(request, page, a);
     let c = marked::put_line(b"\n  bytes:", request.len() + 1, request, page, b);
     let d = replied::put_table(recorded, today, page, c);

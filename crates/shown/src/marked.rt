@@ -62,7 +62,7 @@ pub fn put_line(word: &[u8], mark: usize, bytes: &[u8], page: &mut [u8], at: usi
 pub fn put_end(a: &[u8], b: &[u8], page: &mut [u8], at: usize) -> usize
     ensures { λ r. ⌜ Puts (now (page .entry)) at (newline ++ endText (now (a .entry)) (now (b .entry))) (now (page .exit)) r ⌝ }
 {
-    let mark = entries::first_difference(a, b);
+    let mark = crate::entries::first_difference(a, b);
     if crate::larger(a.len(), b.len()) <= mark {
         return put(b"\nthe same, byte for byte\n", page, at);
     }

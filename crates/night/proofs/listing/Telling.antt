@@ -16,8 +16,8 @@ use Rattle.feed.proofs.Reading.{given-none, given-pair}
 use Rattle.fives.specs.Replay.{agrees}
 use Rattle.page.specs.Page.{counted, Puts}
 use Rattle.page.proofs.Putting.{page-read}
-use Rattle.entries.specs.Entry.{titleOf, entryLine}
-use Rattle.entries.specs.Ending.{noLength, cutOff, wholeTrace, secondEnding, endingLine}
+use Rattle.shown.specs.entries.Entry.{titleOf, entryLine}
+use Rattle.shown.specs.entries.Ending.{noLength, cutOff, wholeTrace, secondEnding, endingLine}
 use Rattle.shown.specs.Page.{shownPage}
 use Rattle.streams.specs.declared.Stream.{Stream}
 use Rattle.streams.specs.Stream.{Wrote, wrote-none, wrote-more}

@@ -12,8 +12,8 @@ use Rattle.feed.specs.Feed.{Feed, folded, feedOf}
 use Rattle.fives.specs.Replay.{sameBytes, agrees}
 use Rattle.spell.specs.Decimal.{digitsOf, digits}
 use Rattle.page.specs.Page.{counted, hexDigit, hexed}
-use Rattle.entries.specs.Entry.{titleOf, askedOf, changeOf, whatDiffers, entryLine}
-use Rattle.entries.specs.Ending.{cutOff, secondEnding, endingLine}
+use Rattle.shown.specs.entries.Entry.{titleOf, askedOf, changeOf, whatDiffers, entryLine}
+use Rattle.shown.specs.entries.Ending.{cutOff, secondEnding, endingLine}
 use Rattle.shown.specs.Page.{shownPage}
 use Rattle.night.specs.listing.Tale.{Tale, onPage, asked, toldOf, differing, tells, taleOf, closing, written}
 

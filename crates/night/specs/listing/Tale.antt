@@ -8,8 +8,8 @@ use lib.ListN.{length, take}
 use Rattle.pairs.specs.Cut.{Pair, longestRecord}
 use Rattle.feed.specs.Feed.{capped, Feed, feedOf}
 use Rattle.fives.specs.Replay.{agrees}
-use Rattle.entries.specs.Entry.{entryLine}
-use Rattle.entries.specs.Ending.{endingLine}
+use Rattle.shown.specs.entries.Entry.{entryLine}
+use Rattle.shown.specs.entries.Ending.{endingLine}
 use Rattle.shown.specs.Page.{shownPage}
 
 -- the room of a page; what has no room there is not told
