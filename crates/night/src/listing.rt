@@ -1,8 +1,8 @@
 // A night told pair by pair, as it comes from an input: a line for each pair whose reply differs and where the reading ended, or one pair
 // in words. What a file holds is not known here; it is promised that what was written is that of the bytes that were read.
 use page::front;
-use shown::entries::put_ending;
-use shown::entries::put_entry;
+use shown::put_ending;
+use shown::put_entry;
 use shown::put_page;
 use streams::Stream;
 ghost use mathlib.Core.Path.{_≡_};

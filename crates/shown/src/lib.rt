@@ -1,9 +1,12 @@
 // A pair in words: where it is, the request, the recorded reply beside today's, and their bytes. The page is bytes by definition; no
 // public function asks anything of its caller.
 mod asked;
-pub mod entries;
+mod entries;
 mod marked;
 mod replied;
+
+pub use entries::put_ending;
+pub use entries::put_entry;
 
 ghost use mathlib.Core.Path.{_≡_};
 ghost use Prim.Native.Nat.{max};
