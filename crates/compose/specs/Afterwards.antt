@@ -14,7 +14,7 @@ use Rattle.request.specs.Head.{byForm, degree}
 use Rattle.request.specs.Request.{Request}
 use Rattle.request.specs.Refusal.{answer}
 use Rattle.net.specs.Composed.{numerator, point}
-use Rattle.runs.specs.Tree.{Tree, tree, entries}
+use Rattle.net.specs.runs.Tree.{Tree, tree, entries}
 
 -- how many places each of them has
 abbrev pub roomsOf : Arrays → Rooms

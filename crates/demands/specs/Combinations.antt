@@ -14,8 +14,8 @@ use Rattle.request.proofs.Forms.{at-curve, at-tensor, at-triangle}
 use Rattle.net.specs.Net.{Net}
 use Rattle.net.specs.Blossom.{Argument, blossom}
 use Rattle.net.proofs.Symmetry.{Reordered, none, keep, exchange, andThen, any-order}
-use Rattle.runs.specs.Tree.{Tree, end, extended, tree, size, entries}
-use Rattle.runs.proofs.Tree.{worked, entries-count}
+use Rattle.net.specs.runs.Tree.{Tree, end, extended, tree, size, entries}
+use Rattle.net.proofs.runs.Tree.{worked, entries-count}
 use Rattle.compose.specs.Afterwards.{Arrays, rideTree, entriesOf, entriesAfter}
 use Rattle.demands.specs.Demands.{Result, Allowed}
 

@@ -21,9 +21,9 @@ use Rattle.net.specs.Net.{rowStart, placeOf, netOf, numberAt, pathNumber}
 use Rattle.net.specs.Blossom.{alongU, alongV, step, blossom}
 use Rattle.net.specs.Composed.{overChoices, total, weight, arguments, numerator, denominator, point}
 use Rattle.net.specs.Reading.{bernstein, bernsteinTriangle, drawn, coordinate, scale, surfaceRead}
-use Rattle.runs.specs.Walk.{walk}
-use Rattle.runs.specs.Ride.{leaf, below as runsBelow, pathTerm, pathTerms}
-use Rattle.runs.proofs.Ride.{curve-walk, tensor-walk}
+use Rattle.net.specs.runs.Walk.{walk}
+use Rattle.net.specs.runs.Ride.{leaf, below as runsBelow, pathTerm, pathTerms}
+use Rattle.net.proofs.runs.Ride.{curve-walk, tensor-walk}
 use Rattle.compose.specs.Afterwards.{listBelow, afterwards, Arrays, arrays, roomsOf, highAfter, lowAfter, pointsAfter}
 
 -- a request, the high words and the low words of its numerators, and its points
@@ -211,7 +211,7 @@ unfolding documentRides ownRides ride short naturals below curve tensor triangle
 short-stated = refl
 
 -- the long ones, whose choices are thousands, by the walk over the runs of path points, which is the same sum
--- (Rattle.runs.proofs.Ride)
+-- (Rattle.net.proofs.runs.Ride)
 unfoldable workedBy : Ride → (ℕ → ℤ) → Answer × Arrays
 workedBy r n =
     let rq = r .request in

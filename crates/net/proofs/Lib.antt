@@ -14,3 +14,4 @@ pub mod Rounded
 pub mod Moment
 pub mod Readings
 pub mod Mirror
+pub mod runs

@@ -8,3 +8,4 @@ pub mod Mirror
 pub mod Weighing
 pub mod Sizes
 pub mod Examples
+pub mod runs

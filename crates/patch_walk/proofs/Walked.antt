@@ -17,11 +17,11 @@ use Rattle.net.specs.Net.{Net}
 use Rattle.net.specs.Blossom.{step, blossom}
 use Rattle.net.proofs.Evaluation.{all, all-under, all-linear}
 use Rattle.net.proofs.Powers.{scale-cond}
-use Rattle.runs.specs.Terms.{Term, Reading, over, chosen}
-use Rattle.runs.specs.Walk.{walk}
-use Rattle.runs.specs.Ride.{leaf}
-use Rattle.runs.proofs.Runs.{over-cons, chosen-zero, chosen-suc}
-use Rattle.runs.proofs.Walk.{walk-chosen}
+use Rattle.net.specs.runs.Terms.{Term, Reading, over, chosen}
+use Rattle.net.specs.runs.Walk.{walk}
+use Rattle.net.specs.runs.Ride.{leaf}
+use Rattle.net.proofs.runs.Runs.{over-cons, chosen-zero, chosen-suc}
+use Rattle.net.proofs.runs.Walk.{walk-chosen}
 use Rattle.patch_net.specs.Patch.{Patch, longest, Index, index, row, rows, indices, netOf}
 use Rattle.patch_net.specs.Composed.{multinomial, overIndices, total, weight, arguments, numerator}
 use Rattle.patch_net.proofs.Indices.{degree, indices-linear}

@@ -4,7 +4,7 @@ use mathlib.Core.Path.{_≡_, refl}
 use mathlib.Core.List.{List, [], _∷_, map}
 use Prim.Native.Nat.{ℕ, _+_, _*_}
 use Rattle.net.specs.Blossom.{Argument, within}
-use Rattle.runs.specs.Terms.{Term}
+use Rattle.net.specs.runs.Terms.{Term}
 use Rattle.patch_net.specs.Patch.{Patch, Index, index, indices, pathNumber}
 use Rattle.patch_net.specs.Composed.{multinomial}
 

@@ -27,15 +27,15 @@ use Rattle.net.specs.Blossom.{Argument, alongU, alongV, within}
 use Rattle.net.specs.Composed.{numerator}
 use Rattle.net.specs.Sizes.{Composable}
 use Rattle.net.proofs.Rounded.{choose-some}
-use Rattle.runs.specs.Terms.{Term, termAt, Reading}
-use Rattle.runs.specs.Walk.{walk}
-use Rattle.runs.specs.Ride.{leaf, below, pathTerm, pathTerms}
-use Rattle.runs.specs.Budget.{weights, budget}
-use Rattle.runs.specs.Tree.{tree, entries}
-use Rattle.runs.proofs.Walk.{walk-zero}
-use Rattle.runs.proofs.Ride.{curve-walk, tensor-walk, triangle-walk}
-use Rattle.runs.proofs.Budget.{budget-is, path-weights}
-use Rattle.runs.proofs.Tree.{formed-entries}
+use Rattle.net.specs.runs.Terms.{Term, termAt, Reading}
+use Rattle.net.specs.runs.Walk.{walk}
+use Rattle.net.specs.runs.Ride.{leaf, below, pathTerm, pathTerms}
+use Rattle.net.specs.runs.Budget.{weights, budget}
+use Rattle.net.specs.runs.Tree.{tree, entries}
+use Rattle.net.proofs.runs.Walk.{walk-zero}
+use Rattle.net.proofs.runs.Ride.{curve-walk, tensor-walk, triangle-walk}
+use Rattle.net.proofs.runs.Budget.{budget-is, path-weights}
+use Rattle.net.proofs.runs.Tree.{formed-entries}
 use Rattle.sums.specs.steps.Layout.{boxed}
 use Rattle.sums.specs.gather.Table.{keyAt, weightAt, shareAt, argumentOf, termOf, termsOf, Good, Inside, Even}
 use Rattle.sums.specs.gather.Owed.{owed, due, ofGroup, restAt, owing, duty, Ready}

@@ -8,11 +8,11 @@ use lib.IntN.{pos}
 use lib.ListN.{replicate, length-replicate}
 use Rattle.limbs.proofs.Gaining.{room-less, zeros-room}
 use Rattle.net.specs.Net.{Net}
-use Rattle.runs.specs.Terms.{Term}
-use Rattle.runs.specs.Walk.{walk}
-use Rattle.runs.specs.Ride.{leaf}
-use Rattle.runs.specs.Budget.{weights}
-use Rattle.runs.proofs.Budget.{budget-is}
+use Rattle.net.specs.runs.Terms.{Term}
+use Rattle.net.specs.runs.Walk.{walk}
+use Rattle.net.specs.runs.Ride.{leaf}
+use Rattle.net.specs.runs.Budget.{weights}
+use Rattle.net.proofs.runs.Budget.{budget-is}
 use Rattle.sums.specs.gather.Table.{termsOf, Good}
 use Rattle.sums.specs.gather.Owed.{ofGroup, restAt, owing, duty, Ready}
 pub use Rattle.sums.proofs.gather.Turn.{only-leaf}

@@ -9,7 +9,7 @@ use Rattle.request.specs.declared.Head.{Head}
 use Rattle.request.specs.Head.{mostPoints, degree}
 use Rattle.request.specs.Request.{Request}
 use Rattle.net.specs.Composed.{numerator}
-use Rattle.runs.specs.Tree.{tree, entries}
+use Rattle.net.specs.runs.Tree.{tree, entries}
 
 -- how many places there are: 0 to the greatest L
 abbrev pub places : ℕ

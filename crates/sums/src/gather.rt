@@ -7,7 +7,7 @@ ghost use Prim.Native.Nat.{_+_, _*_, _-_, _^_, _≤_, _<_};
 ghost use lib.ListN.{getD};
 ghost use Rattle.whole.specs.Choose.{choose};
 ghost use Rattle.limbs.specs.Limbs.{Gained};
-ghost use Rattle.runs.specs.Tree.{size};
+ghost use Rattle.net.specs.runs.Tree.{size};
 ghost use Rattle.sums.specs.steps.Layout.{boxed, held};
 ghost use Rattle.sums.specs.steps.Stepped.{Small, entryMost};
 ghost use Rattle.sums.specs.steps.Few.{inTwo, inFour, inThree, inSix};

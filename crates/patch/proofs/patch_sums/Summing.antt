@@ -15,11 +15,11 @@ use Rattle.limbs.proofs.Gaining.{room-less, zeros-room, summed}
 use Rattle.request.proofs.Bounds.{path-numbers}
 use Rattle.net.specs.Net.{rowStart}
 use Rattle.net.specs.Blossom.{within}
-use Rattle.runs.specs.Terms.{Term}
-use Rattle.runs.specs.Walk.{walk}
-use Rattle.runs.specs.Ride.{leaf, below}
-use Rattle.runs.specs.Budget.{weights}
-use Rattle.runs.proofs.Walk.{walk-zero}
+use Rattle.net.specs.runs.Terms.{Term}
+use Rattle.net.specs.runs.Walk.{walk}
+use Rattle.net.specs.runs.Ride.{leaf, below}
+use Rattle.net.specs.runs.Budget.{weights}
+use Rattle.net.proofs.runs.Walk.{walk-zero}
 use Rattle.sums.specs.gather.Table.{shareAt, argumentOf, termOf, termsOf, Good, Even}
 use Rattle.sums.specs.gather.Owed.{owing, duty, Ready}
 use Rattle.sums.specs.Loaded.{stacked}

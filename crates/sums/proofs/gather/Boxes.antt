@@ -14,10 +14,10 @@ use borrow.Author.Tests.{lt-ltb, le-ltb, ne-eqb}
 use Rattle.net.specs.Net.{Net}
 use Rattle.net.specs.Blossom.{alongU, alongV, step}
 use Rattle.net.proofs.Every.{Every, none, more, every-drop}
-use Rattle.runs.specs.Terms.{Term}
-use Rattle.runs.specs.Walk.{walk}
-use Rattle.runs.specs.Ride.{leaf, below}
-use Rattle.runs.proofs.Reach.{Keeps, walk-reach, leaf-same}
+use Rattle.net.specs.runs.Terms.{Term}
+use Rattle.net.specs.runs.Walk.{walk}
+use Rattle.net.specs.runs.Ride.{leaf, below}
+use Rattle.net.proofs.runs.Reach.{Keeps, walk-reach, leaf-same}
 use Rattle.sums.specs.steps.Layout.{boxed}
 use Rattle.sums.specs.steps.Stepped.{between, Slid}
 use Rattle.sums.proofs.steps.Fronts.{front}

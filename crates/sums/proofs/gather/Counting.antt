@@ -12,8 +12,8 @@ use lib.ListN.{length, drop, length-drop, drop-of-length-le}
 use lib.Seq.{drop-cons}
 use borrow.Author.Tests.{ne-eqb}
 use Rattle.whole.proofs.Binomial.{choose-self}
-use Rattle.runs.specs.Terms.{Term, noTerm, termAt}
-use Rattle.runs.specs.Tree.{size, formed}
+use Rattle.net.specs.runs.Terms.{Term, noTerm, termAt}
+use Rattle.net.specs.runs.Tree.{size, formed}
 use Rattle.sums.specs.gather.Table.{termsOf}
 use Rattle.sums.specs.gather.Formed.{mostFormed, Counted}
 use Rattle.sums.proofs.gather.Turn.{length-terms}

@@ -11,12 +11,12 @@ use lib.ListN.{drop}
 use borrow.Author.Tests.{lt-ltb, le-ltb, eq-eqb, ne-eqb}
 use Rattle.limbs.specs.Limbs.{Room}
 use Rattle.net.specs.Net.{Net}
-use Rattle.runs.specs.Walk.{walk}
-use Rattle.runs.specs.Ride.{leaf}
-use Rattle.runs.specs.Budget.{budget}
+use Rattle.net.specs.runs.Walk.{walk}
+use Rattle.net.specs.runs.Ride.{leaf}
+use Rattle.net.specs.runs.Budget.{budget}
 use Rattle.sums.specs.gather.Table.{termsOf}
 use Rattle.sums.specs.gather.Owed.{owed, due, Able, groupAt, ofGroup, readAt, restAt, owing, duty}
-use Rattle.runs.proofs.Reach.{Reads, leaf-reads, walk-reads}
+use Rattle.net.proofs.runs.Reach.{Reads, leaf-reads, walk-reads}
 use Rattle.sums.proofs.gather.Turn.{owed-zero, due-zero}
 use Rattle.sums.proofs.gather.Turn as Turn
 

@@ -7,7 +7,7 @@ use lib.IntN.{ℤ, pos}
 use lib.ListN.{drop}
 use Rattle.net.specs.Net.{Net}
 use Rattle.net.specs.Blossom.{within, step}
-use Rattle.runs.proofs.Reach.{Agree}
+use Rattle.net.proofs.runs.Reach.{Agree}
 use Rattle.sums.specs.steps.Layout.{before, spot, held, diagonal, further}
 use Rattle.sums.specs.steps.Stepped.{among, Lowered}
 use Rattle.sums.proofs.steps.Fronts.{front}

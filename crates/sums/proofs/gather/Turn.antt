@@ -18,14 +18,14 @@ use Rattle.limbs.specs.Limbs.{only, Room, Gained}
 use Rattle.limbs.proofs.Gaining.{only-same, only-other, room-less}
 use Rattle.net.specs.Net.{Net}
 use Rattle.net.specs.Blossom.{step}
-use Rattle.runs.specs.Terms.{Term, Reading, noTerm, termAt}
-use Rattle.runs.specs.Walk.{walk}
-use Rattle.runs.specs.Ride.{leaf, below}
-use Rattle.runs.specs.Budget.{budget}
-use Rattle.runs.proofs.Walk.{walk-zero}
-use Rattle.runs.proofs.Loop.{walk-end, weighed-turn}
-use Rattle.runs.proofs.Budget.{budget-turn, budget-cons, budget-zero}
-use Rattle.runs.proofs.Reach.{Agree, Reads, walk-reads}
+use Rattle.net.specs.runs.Terms.{Term, Reading, noTerm, termAt}
+use Rattle.net.specs.runs.Walk.{walk}
+use Rattle.net.specs.runs.Ride.{leaf, below}
+use Rattle.net.specs.runs.Budget.{budget}
+use Rattle.net.proofs.runs.Walk.{walk-zero}
+use Rattle.net.proofs.runs.Loop.{walk-end, weighed-turn}
+use Rattle.net.proofs.runs.Budget.{budget-turn, budget-cons, budget-zero}
+use Rattle.net.proofs.runs.Reach.{Agree, Reads, walk-reads}
 use Rattle.sums.specs.gather.Table.{keyAt, weightAt, termOf, termsOf}
 use Rattle.sums.specs.gather.Owed.{owed, due}
 use Rattle.limbs.proofs.Toward.{Toward, toward-start, toward-turn, toward-room, toward-end, gained-as}

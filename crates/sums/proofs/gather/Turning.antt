@@ -10,7 +10,7 @@ use Rattle.whole.specs.Choose.{choose}
 use Rattle.limbs.specs.Limbs.{Gained}
 use Rattle.net.specs.Net.{Net}
 use Rattle.net.specs.Blossom.{step}
-use Rattle.runs.specs.Terms.{Term, Reading, termAt}
+use Rattle.net.specs.runs.Terms.{Term, Reading, termAt}
 use Rattle.sums.specs.gather.Table.{keyAt, weightAt, termOf, termsOf}
 use Rattle.sums.specs.gather.Owed.{owed, due, Able}
 use Rattle.limbs.proofs.Toward.{room-small}

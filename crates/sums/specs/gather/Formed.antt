@@ -3,7 +3,7 @@ use mathlib.Core.Path.{_≡_}
 use mathlib.Core.List.{List}
 use Prim.Native.Nat.{ℕ, zero, suc, _+_, _*_, _≤_}
 use lib.ListN.{drop}
-use Rattle.runs.specs.Tree.{formed}
+use Rattle.net.specs.runs.Tree.{formed}
 use Rattle.sums.specs.gather.Table.{termsOf}
 
 unfoldable pub mostFormed : ℕ → ℕ

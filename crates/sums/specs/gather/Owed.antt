@@ -8,10 +8,10 @@ use lib.Dec.{ltb}
 use lib.ListN.{length, drop}
 use Rattle.limbs.specs.Limbs.{Room}
 use Rattle.net.specs.Net.{Net}
-use Rattle.runs.specs.Terms.{Term, Reading}
-use Rattle.runs.specs.Walk.{walk}
-use Rattle.runs.specs.Ride.{leaf}
-use Rattle.runs.specs.Budget.{budget}
+use Rattle.net.specs.runs.Terms.{Term, Reading}
+use Rattle.net.specs.runs.Walk.{walk}
+use Rattle.net.specs.runs.Ride.{leaf}
+use Rattle.net.specs.runs.Budget.{budget}
 use Rattle.sums.specs.gather.Table.{termsOf, Good}
 
 unfoldable pub owed : (ℕ → Reading) → List Term → ℕ → ℕ → ℕ → ℕ → Net → ℕ → ℤ

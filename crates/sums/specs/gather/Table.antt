@@ -8,8 +8,8 @@ use lib.IntN.{pos}
 use lib.Dec.{eqb}
 use lib.ListN.{getD}
 use Rattle.net.specs.Blossom.{Argument, alongU, alongV, within}
-use Rattle.runs.specs.Terms.{Term}
-use Rattle.runs.specs.Ride.{below}
+use Rattle.net.specs.runs.Terms.{Term}
+use Rattle.net.specs.runs.Ride.{below}
 
 abbrev pub keyAt : List ℕ → ℕ → ℕ
 keyAt t c = getD t (4 * c) 0

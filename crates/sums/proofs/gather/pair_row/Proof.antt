@@ -5,7 +5,7 @@ use native.Mathlib.Nat.{mul-le-mul-left}
 use native.Mathlib.Omega.{arith}
 use borrow.Author.Needs.{needs}
 use Rattle.whole.specs.Choose.{choose}
-use Rattle.runs.specs.Tree.{size}
+use Rattle.net.specs.runs.Tree.{size}
 use Rattle.sums.specs.steps.Layout.{boxed}
 use Rattle.sums.specs.steps.Stepped.{entryMost}
 use Rattle.sums.specs.steps.Few.{inFour}

@@ -5,7 +5,7 @@ use Prim.Native.Nat.{_-_, _≤_}
 use native.Mathlib.Nat.{mul-le-mul-left}
 use native.Mathlib.Omega.{arith}
 use Rattle.whole.specs.Choose.{choose}
-use Rattle.runs.specs.Tree.{size}
+use Rattle.net.specs.runs.Tree.{size}
 use Rattle.sums.specs.steps.Layout.{held}
 use Rattle.sums.specs.steps.Stepped.{entryMost}
 use Rattle.sums.specs.steps.Few.{inSix}

@@ -2,7 +2,7 @@
 use mathlib.Core.Path.{_≡_, refl}
 use native.Mathlib.Omega.{arith}
 use Rattle.whole.specs.Choose.{choose}
-use Rattle.runs.specs.Tree.{size}
+use Rattle.net.specs.runs.Tree.{size}
 use Rattle.sums.proofs.gather.triangle.Statement.{statement}
 use Rattle.sums.proofs.gather.triangle.Tie as tie
 

@@ -11,15 +11,15 @@ use Rattle.whole.specs.Choose.{choose}
 use Rattle.whole.proofs.Ring.{_⊕_, _⊗_, ⊗-comm, ⊗-assoc, one-⊗, ⊗-one, pos-add, pos-mul, pow-zero, pow-suc, pow-pos}
 use Rattle.whole.proofs.Sums.{sumTo-is, sum-cong}
 use Rattle.whole.proofs.Binomial.{weighed, binomial}
 use Rattle.net.specs.Net.{Net}
 use Rattle.net.specs.Blossom.{Argument, step}
-use Rattle.runs.specs.Terms.{Term, noTerm, termAt, over, chosen}
-use Rattle.runs.specs.Walk.{walk}
-use Rattle.runs.specs.Ride.{pathTerm, pathTerms}
-use Rattle.runs.specs.Budget.{weights, budget}
-use Rattle.runs.proofs.Runs.{over-cons, over-scale, over-cong, chosen-zero, chosen-suc}
-use Rattle.runs.proofs.Walk.{walk-chosen}
-use Rattle.runs.proofs.Ride.{over-below}
+use Rattle.net.specs.runs.Terms.{Term, noTerm, termAt, over, chosen}
+use Rattle.net.specs.runs.Walk.{walk}
+use Rattle.net.specs.runs.Ride.{pathTerm, pathTerms}
+use Rattle.net.specs.runs.Budget.{weights, budget}
+use Rattle.net.proofs.runs.Runs.{over-cons, over-scale, over-cong, chosen-zero, chosen-suc}
+use Rattle.net.proofs.runs.Walk.{walk-chosen}
+use Rattle.net.proofs.runs.Ride.{over-below}
 
 -- ---- over all choices, whatever is read of all alike
 pub chosen-weights : (T : List Term) (r : ℕ) (x : ℤ) (s : ℕ) (p : Net) → chosen T r (λ s p. x) s p ≡ pow (over T (λ t. pos (t .weight))) r ⊗ x

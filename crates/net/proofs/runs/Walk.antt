@@ -9,11 +9,11 @@ use Rattle.whole.specs.Choose.{choose}
 use Rattle.whole.proofs.Ring.{_⊕_, _⊗_, ⊕-comm, ⊗-assoc, ⊗-left-comm, one-⊗, pow-zero, pow-suc}
 use Rattle.whole.proofs.Sums.{sum-zero, sum-suc, sum-cong, sum-cong-on, sum-scale}
 use Rattle.whole.proofs.Binomial.{choose-zero, choose-sym, weighed}
 use Rattle.net.specs.Net.{Net}
 use Rattle.net.specs.Blossom.{step}
-use Rattle.runs.specs.Terms.{Term, Reading, chosen, repeated, runs}
-use Rattle.runs.specs.Walk.{walk}
-use Rattle.runs.proofs.Runs.{chosen-runs, runs-cons}
+use Rattle.net.specs.runs.Terms.{Term, Reading, chosen, repeated, runs}
+use Rattle.net.specs.runs.Walk.{walk}
+use Rattle.net.proofs.runs.Runs.{chosen-runs, runs-cons}
 
 pub walk-zero : (T : List Term) (begun : ℕ) (F : Reading) (s : ℕ) (p : Net) → walk T 0 begun F s p ≡ F s p
 unfolding walk

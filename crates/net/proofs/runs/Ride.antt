@@ -14,15 +14,15 @@ use Rattle.request.specs.declared.Head.{Head}
 use Rattle.request.specs.Head.{degree}
 use Rattle.request.specs.Request.{Request}
 use Rattle.request.proofs.Forms.{at-curve, at-tensor, at-triangle}
 use Rattle.net.specs.Net.{Net, netOf, pathNumber}
 use Rattle.net.specs.Blossom.{Argument, alongU, alongV, within, step, blossom}
 use Rattle.net.specs.Composed.{arguments, numerator}
 use Rattle.net.proofs.Literal.{sumAt, sum-none, sum-more, numerator-is}
-use Rattle.runs.specs.Terms.{Reading, over, chosen}
-use Rattle.runs.specs.Walk.{walk}
-use Rattle.runs.specs.Ride.{leaf, below, pathTerm, pathTerms}
-use Rattle.runs.proofs.Runs.{over-cons, chosen-zero, chosen-suc}
-use Rattle.runs.proofs.Walk.{walk-chosen}
+use Rattle.net.specs.runs.Terms.{Reading, over, chosen}
+use Rattle.net.specs.runs.Walk.{walk}
+use Rattle.net.specs.runs.Ride.{leaf, below, pathTerm, pathTerms}
+use Rattle.net.proofs.runs.Runs.{over-cons, chosen-zero, chosen-suc}
+use Rattle.net.proofs.runs.Walk.{walk-chosen}
 
 pub over-below : {A : Type 0} (n : ℕ) (g : ℕ → A) (f : A → ℤ) → over (below (suc n) g) f ≡ sumTo n (λ c. f (g c))
 unfolding over below sumTo

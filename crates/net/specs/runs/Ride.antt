@@ -6,8 +6,8 @@ use Prim.Native.Nat.{ℕ, zero, suc}
 use lib.IntN.{pos}
 use lib.Dec.{eqb}
 use Rattle.whole.specs.Choose.{choose}
 use Rattle.net.specs.Blossom.{Argument}
-use Rattle.runs.specs.Terms.{Term, Reading}
+use Rattle.net.specs.runs.Terms.{Term, Reading}
 
 -- the number that is left, if the keys add up to R
 unfoldable pub leaf : ℕ → Reading

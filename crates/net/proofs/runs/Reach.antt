@@ -6,13 +6,13 @@ use native.Mathlib.Omega.{arith}
 use lib.IntN.{pos}
 use Rattle.whole.specs.Choose.{choose}
 use Rattle.whole.proofs.Ring.{_⊕_, _⊗_}
 use Rattle.net.specs.Net.{Net}
 use Rattle.net.specs.Blossom.{Argument, alongU, alongV, within, step}
 use Rattle.net.proofs.Every.{Every, none, more}
-use Rattle.runs.specs.Terms.{Term, Reading}
-use Rattle.runs.specs.Walk.{walk}
-use Rattle.runs.specs.Ride.{leaf}
-use Rattle.runs.proofs.Walk.{walk-zero, walk-none, walk-cons}
+use Rattle.net.specs.runs.Terms.{Term, Reading}
+use Rattle.net.specs.runs.Walk.{walk}
+use Rattle.net.specs.runs.Ride.{leaf}
+use Rattle.net.proofs.runs.Walk.{walk-zero, walk-none, walk-cons}
 
 -- a term's step leaves nets that agree as far as so many arguments reach agreeing as far as one fewer do
 abbrev pub Keeps : (ℕ → Net → Net → Type 0) → Term → Type 0

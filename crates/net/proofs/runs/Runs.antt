@@ -8,10 +8,10 @@ use Rattle.whole.specs.Choose.{choose}
 use Rattle.whole.proofs.Ring.{_⊕_, _⊗_, ⊗-assoc, ⊗-left-comm, ⊗-⊕, ⊗-zero, one-⊗, pos-mul, pow-zero, pow-suc, pow-pos}
 use Rattle.whole.proofs.Sums.{sum-cong, sum-none}
 use Rattle.whole.proofs.Binomial.{weighed, weighed-zero, weighed-suc, weighed-cong, weighed-add, weighed-scale}
 use Rattle.net.specs.Net.{Net}
 use Rattle.net.specs.Blossom.{Argument, step}
 use Rattle.net.proofs.Steps.{weightsOf, step-mix, mix-comm}
-use Rattle.runs.specs.Terms.{Term, Reading, over, chosen, repeated, runs}
+use Rattle.net.specs.runs.Terms.{Term, Reading, over, chosen, repeated, runs}
 
 -- ---- the sum over a list is linear
 pub over-cons : {A : Type 0} (a : A) (T : List A) (f : A → ℤ) → over (a ∷ T) f ≡ f a ⊕ over T f

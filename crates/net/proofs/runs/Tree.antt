@@ -7,7 +7,7 @@ use native.Mathlib.Nat.{add-zero, zero-add}
 use native.Mathlib.Omega.{arith}
 use Rattle.whole.specs.Choose.{choose}
 use Rattle.whole.proofs.Binomial.{choose-zero, choose-pascal, choose-sym}
-use Rattle.runs.specs.Tree.{tree, size, entries, formed}
+use Rattle.net.specs.runs.Tree.{tree, size, entries, formed}
 
 pub entries-are : (K r c g : ℕ) → entries K (tree r c g) + choose (r + K) r ≡ choose (r + g + K) r
 unfolding tree entries size

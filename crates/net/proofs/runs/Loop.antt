@@ -8,11 +8,11 @@ use lib.ListN.{length, drop, drop-of-length-le}
 use lib.Seq.{drop-cons}
 use Rattle.whole.specs.Choose.{choose}
 use Rattle.whole.proofs.Ring.{_⊕_, _⊗_, ⊗-assoc, ⊗-⊕, pos-mul}
 use Rattle.net.specs.Net.{Net}
 use Rattle.net.specs.Blossom.{step}
-use Rattle.runs.specs.Terms.{Term, noTerm, termAt, Reading}
-use Rattle.runs.specs.Walk.{walk}
-use Rattle.runs.proofs.Walk.{walk-none, walk-cons}
+use Rattle.net.specs.runs.Terms.{Term, noTerm, termAt, Reading}
+use Rattle.net.specs.runs.Walk.{walk}
+use Rattle.net.proofs.runs.Walk.{walk-none, walk-cons}
 
 module _ (T : List Term) (left : ℕ) (F : Reading) (s : ℕ) (p : Net) where
   -- what term c takes on, from here

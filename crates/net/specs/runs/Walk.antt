@@ -4,9 +4,9 @@ use mathlib.Core.List.{List, [], _∷_}
 use Prim.Native.Nat.{ℕ, zero, suc, _+_}
 use lib.IntN.{ℤ, pos, _+ℤ_, _*ℤ_}
 use Rattle.whole.specs.Choose.{choose}
 use Rattle.net.specs.Net.{Net}
 use Rattle.net.specs.Blossom.{step}
-use Rattle.runs.specs.Terms.{Term, Reading}
+use Rattle.net.specs.runs.Terms.{Term, Reading}
 
 -- the first term once more, or its run is closed and the later terms have what is left: which of those arguments they
 -- have can be chosen in (begun over left) ways

@@ -2,7 +2,7 @@
 use mathlib.Core.List.{List, [], _∷_}
 use Prim.Native.Nat.{ℕ, zero, suc, _+_, _*_}
 use Rattle.whole.specs.Choose.{choose}
-use Rattle.runs.specs.Terms.{Term}
+use Rattle.net.specs.runs.Terms.{Term}
 
 unfoldable pub weights : List Term → ℕ
 weights [] = 0
