@@ -7,7 +7,6 @@ mod replied;
 
 pub use entries::put_ending;
 pub use entries::put_entry;
-
 ghost use mathlib.Core.Path.{_≡_};
 ghost use Prim.Native.Nat.{max};
 ghost use Rattle.page.specs.Page.{Puts};
