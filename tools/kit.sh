@@ -22,7 +22,7 @@ if [ -x "$tools/bin/qemu-x86_64" ]; then start=("$tools/bin/qemu-x86_64" "${star
 
 # One at a time works in target/, so that programs joined by a pipe do not build into each other's files and the gate does not
 # take a program away that is being built. The lock is the folder crates/ itself: it asks for no right to write, and rt ci does
-# not remove it. The gate holds it to its end; what it runs beside its edits (LEAN_GATE) goes by the folder tools/.
+# not remove it. The gate holds it to its end; what it runs beside rt (LEAN_GATE) goes by the folder tools/.
 locked() { # COMMAND...
     local lock status=0 folder=$top/crates
     if [ "${LEAN_GATE:-}" = "$top" ]; then folder=$top/tools; fi
