@@ -11,13 +11,13 @@ ghost use Rattle.spell.specs.Decimal.{decimal, Written};
 ghost use Rattle.two_words.specs.Words.{twoWords, numbersOf};
 ghost use Rattle.answer_line.specs.Answer.{spaced, judged, verdict, lists, answerLine, patchLine, readingLine, Listed};
 use crate::long_decimal::write_words;
+use request::units::travel_at;
+use request::units::units_of;
 use spell::write_bytes;
 use spell::write_natural;
 use spell::write_next_natural;
 use spell::write_number;
 use two_words::Words;
-use units::travel_at;
-use units::units_of;
 use whole::Num;
 
 // A space and a number.

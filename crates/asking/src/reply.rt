@@ -9,10 +9,10 @@ ghost use Rattle.asking.specs.reply.Reply.{replyOf, Fits, lineIn, spoken
 ghost use Rattle.spell.specs.Decimal.{Written};
 use answer_line::write_answer;
 use request::Head;
+use request::units::Age;
 use text::Reading;
 use text::kinds::Replied;
 use text::rooms::shown;
-use units::Age;
 
 // The low word of -7, whose high word is -1.
 const LOW_SEVEN: u64 = 18446744073709551609;

@@ -9,7 +9,7 @@ use lib.Dec.{ltb}
 use lib.IntN.{ℤ, pos, natAbs}
 use lib.ListN.{getD}
 use lib.Ieee.{Float, nan}
-use Rattle.units.proofs.Within.{path-within}
+use Rattle.request.proofs.units.Within.{path-within}
 use Rattle.net.specs.Net.{Net}
 use Rattle.net.specs.Blossom.{alongU, step, blossom}
 use Rattle.net.specs.Weighing.{mixed}

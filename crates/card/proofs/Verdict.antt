@@ -9,7 +9,7 @@ use native.Mathlib.Omega.{arith}
 use lib.Dec.{ltb}
 use lib.IntN.{ℤ, pos}
 use borrow.Author.Tests.{lt-ltb, le-ltb}
-use Rattle.units.specs.Bounds.{beyondPath}
+use Rattle.request.specs.units.Bounds.{beyondPath}
 use Rattle.request.specs.declared.Answer.{Answer}
 use Rattle.request.specs.Head.{byForm, degree, longest, numbers}
 use Rattle.request.specs.Request.{Request}

@@ -8,7 +8,7 @@ use lib.Dec.{ltb}
 use lib.IntN.{ℤ, pos, natAbs}
 use lib.ListN.{length, getD}
 use lib.Ieee.{Float, nan}
-use Rattle.units.specs.Bounds.{beyondPath}
+use Rattle.request.specs.units.Bounds.{beyondPath}
 use Rattle.net.specs.Net.{Net}
 use Rattle.net.specs.Blossom.{Argument, alongU, blossom}
 use Rattle.request.specs.Request.{Request}

@@ -6,7 +6,7 @@ ghost use Prim.Native.Nat.{_≤_};
 ghost use lib.Dec.{ltb};
 ghost use lib.IntN.{pos};
 ghost use lib.ListN.{length, getD};
-ghost use Rattle.units.specs.Bounds.{beyondPath};
+ghost use Rattle.request.specs.units.Bounds.{beyondPath};
 ghost use Rattle.request.specs.Refusal.{valuePlace};
 ghost use Rattle.floats.specs.Float.{float};
 ghost use Rattle.part.specs.Part.{headOf, firstOf, lastOf};
@@ -15,7 +15,7 @@ ghost use Rattle.card.specs.Steps.{Lowered, Blossoms, Filled, Refuses, A
 use part::Card;
 use part::Part;
 use request::Head;
-use units::PathNumber;
+use request::units::PathNumber;
 
 // The head of the request that a part is: N is 0 for a stay and 1 for a line.
 fn head_of(m: u32, part: Part) -> Head
@@ -56,7 +56,7 @@ fn last_of(part: Part) -> f64
 fn control(surface: &[i32], k: usize) -> f64
     ensures { λ r. ⌜ r ≡ float (getD (now (surface .entry)) k (pos 0)) ⌝ }
 {
-    floats::of_travel(units::travel_at(surface, k))
+    floats::of_travel(request::units::travel_at(surface, k))
 }
 
 fn loaded(surface: &[i32]) -> [f64; 5]
@@ -161,11 +161,11 @@ pub fn drive(m: u32, surface: &[i32], part: Part) -> Card
         return refused(6, value);
     }
     let x = floats::path_number(first_of(part));
-    if units::beyond_path(x) {
+    if request::units::beyond_path(x) {
         return refused(7, 0);
     }
     let y = floats::path_number(last_of(part));
-    if units::beyond_path(y) {
+    if request::units::beyond_path(y) {
         return refused(7, 1);
     }
     answered(surface, m as usize, judge::place_count(head), x, y)

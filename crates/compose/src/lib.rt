@@ -11,7 +11,7 @@ ghost use Rattle.compose.specs.Contract.{Composed};
 use request::Answer;
 use request::Head;
 use request::Rooms;
-use units::Age;
+use request::units::Age;
 
 // Of the entries that were formed, those that are reported: form 2 reports none.
 fn reported(head: Head, formed: u64) -> u64

@@ -7,8 +7,8 @@ ghost use Rattle.whole.specs.Round.{nearest};
 ghost use Rattle.two_words.specs.Words.{twoWords};
 ghost use Rattle.compose.specs.writing.Arrays.{arrays};
 ghost use Rattle.compose.specs.writing.Placed.{PointAt, PointsAt, Enough, Put, Wrote};
+use request::units::Travel;
 use two_words::Words;
-use units::Travel;
 use whole::Num;
 
 fn put_high(high: &mut [i64], R: usize, x: Num)
@@ -40,7 +40,7 @@ fn rounded(n: Words, L: usize, r: usize, R: usize) -> Travel
     ensures { λ t. ⌜ t .0 ≡ nearest (twoWords (n .high .0) (n .low)) (choose L R * 1024 ^ r) ⌝ }
 {
     let d = pascal::binomial(L, R);
-    units::travel_of(two_words::rounded(n, d, r))
+    request::units::travel_of(two_words::rounded(n, d, r))
 }
 
 // Writes what stands at R: both words of its numerator, and its rounded point.

@@ -9,7 +9,7 @@ use lib.IntN.{ℤ, pos}
 use lib.ListN.{length, drop, length-append}
 use lib.Seq.{ext-getD}
 use borrow.Author.Tests.{le-ltb, eq-eqb}
-use Rattle.units.specs.Bounds.{stale}
+use Rattle.request.specs.units.Bounds.{stale}
 use Rattle.request.specs.Head.{surfaceCount, pathCount}
 use Rattle.request.specs.Request.{Request}
 use Rattle.request.specs.Cascade.{first, decided}

@@ -10,7 +10,7 @@ use Rattle.whole.specs.Sum.{sumOver, sumTo}
 use Rattle.whole.specs.Choose.{choose}
 use Rattle.whole.specs.Round.{halfUp, onSideOf, nearest}
 use Rattle.two_words.specs.Words.{highWord, lowWord}
-use Rattle.units.specs.Bounds.{beyondTravel, beyondPath, stale}
+use Rattle.request.specs.units.Bounds.{beyondTravel, beyondPath, stale}
 use Rattle.request.specs.declared.Answer.{Answer}
 use Rattle.request.specs.Head.{byForm, degree, longest, surfaceCount, pathCount, numbers}
 use Rattle.request.specs.Request.{Request}

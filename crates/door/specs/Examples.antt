@@ -7,7 +7,7 @@ use Prim.Native.Nat.{ℕ}
 use Rattle.whole.specs.Sum.{sumOver, sumTo}
 use Rattle.whole.specs.Choose.{choose}
 use Rattle.whole.specs.Round.{nearest, onSideOf, halfUp}
-use Rattle.units.specs.Bounds.{beyondTravel, beyondPath, stale}
+use Rattle.request.specs.units.Bounds.{beyondTravel, beyondPath, stale}
 use Rattle.request.specs.Head.{byForm, degree, longest, surfaceCount, pathCount, numbers}
 use Rattle.request.specs.Cascade.{first, refused, decided}
 use Rattle.request.specs.Refusal.{refusals, answer, accepted, least, notKind, notDegree, notSurface, notPath, notRoom}

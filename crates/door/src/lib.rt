@@ -13,7 +13,7 @@ ghost use Rattle.door.specs.Contract.{Answered};
 ghost use Rattle.door.specs.Given.{Readable, Given};
 use request::Answer;
 use request::Head;
-use units::Age;
+use request::units::Age;
 use whole::Num;
 
 // As many control values as the greatest degrees ask for.

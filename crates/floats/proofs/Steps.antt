@@ -6,7 +6,7 @@ use native.Mathlib.Omega.{arith}
 use lib.Dec.{lit≤}
 use lib.IntN.{ℤ, pos, _+ℤ_, _-ℤ_, _*ℤ_}
 use lib.Ieee.{Float, binary64, add, sub, mul, ofInt}
-use Rattle.units.specs.Bounds.{pathOne}
+use Rattle.request.specs.units.Bounds.{pathOne}
 use Rattle.floats.specs.Float.{float}
 use Rattle.floats.specs.Step.{mixed, Exact}
 use Rattle.floats.proofs.Sums.{less, sub-exact, weighed-exact}

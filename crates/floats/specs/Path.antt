@@ -3,7 +3,7 @@
 use Prim.Native.Nat.{ℕ, suc}
 use lib.IntN.{pos}
 use lib.Ieee.{Float, eq}
-use Rattle.units.specs.Bounds.{pathOne}
+use Rattle.request.specs.units.Bounds.{pathOne}
 use Rattle.request.specs.Refusal.{least}
 use Rattle.floats.specs.Float.{float}
 

@@ -3,7 +3,7 @@ use mathlib.Core.Path.{_≡_}
 use Prim.Native.Nat.{ℕ, _*_, _^_, _≤_}
 use lib.IntN.{ℤ, pos, natAbs, _+ℤ_, _-ℤ_, _*ℤ_}
 use lib.Ieee.{Float, binary64, add, sub, mul}
-use Rattle.units.specs.Bounds.{pathOne}
+use Rattle.request.specs.units.Bounds.{pathOne}
 use Rattle.floats.specs.Float.{float, bits}
 
 -- "(1024 − u)·p(i) + u·p(i+1)", each operation rounded

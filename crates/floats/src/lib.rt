@@ -3,12 +3,12 @@
 ghost use mathlib.Core.Path.{_≡_};
 ghost use lib.IntN.{pos};
 ghost use lib.Ieee.{binary64, sub};
-ghost use Rattle.units.specs.Bounds.{pathOne};
+ghost use Rattle.request.specs.units.Bounds.{pathOne};
 ghost use Rattle.floats.specs.Float.{float};
 ghost use Rattle.floats.specs.Path.{pathOf};
 ghost use Rattle.floats.specs.Step.{Stepped};
-use units::PathNumber;
-use units::Travel;
+use request::units::PathNumber;
+use request::units::Travel;
 
 // What stands for an f64 that is no path number: it is beyond them all.
 fn none() -> PathNumber

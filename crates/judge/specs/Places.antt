@@ -6,7 +6,7 @@ use Prim.Native.Nat.{ℕ}
 use lib.Dec.{ltb}
 use lib.IntN.{ℤ, pos}
 use lib.ListN.{length, getD}
-use Rattle.units.specs.Bounds.{beyondTravel, beyondPath}
+use Rattle.request.specs.units.Bounds.{beyondTravel, beyondPath}
 use Rattle.request.specs.Cascade.{Test, test}
 use Rattle.request.specs.Refusal.{least, valuePlace, parameterPlace, uneven}
 

@@ -16,7 +16,7 @@ use request::Answer;
 use request::Head;
 use request::Rooms;
 use request::refusal;
-use units::Age;
+use request::units::Age;
 
 // L + 1: how many places of each output array are written.
 pub fn place_count(head: Head) -> usize
@@ -108,7 +108,7 @@ pub fn judge(head: Head, age: Age, surface: &[i32], path: &[i32], rooms: Rooms) 
     if request::not_degree(head) {
         return refusal(2, 0);
     }
-    let old = units::is_stale(age);
+    let old = request::units::is_stale(age);
     let values = request::surface_count(head);
     let numbers = request::path_count(head);
     if old {

@@ -12,9 +12,9 @@ fn is_beyond(path: bool, numbers: &[i32], k: usize) -> bool
     ensures { λ r. ⌜ r ≡ beyond path (getD (now (numbers .entry)) k (pos 0)) ⌝ }
 {
     if path {
-        return units::beyond_path(units::path_number_at(numbers, k));
+        return request::units::beyond_path(request::units::path_number_at(numbers, k));
     }
-    units::beyond_travel(units::travel_at(numbers, k))
+    request::units::beyond_travel(request::units::travel_at(numbers, k))
 }
 
 // The least index of a number beyond its bounds, of a path or of a surface, or their count.
@@ -36,9 +36,9 @@ fn is_uneven(path: &[i32], c: usize) -> bool
     requires { ⌜ (c < 10) × (parameterPlace (now path) ≡ length (now path)) ⌝ }
     ensures { λ r. ⌜ r ≡ uneven (now (path .entry)) c ⌝ }
 {
-    let x = units::path_size_at(path, 3 * c);
-    let y = units::path_size_at(path, 3 * c + 1);
-    let z = units::path_size_at(path, 3 * c + 2);
+    let x = request::units::path_size_at(path, 3 * c);
+    let y = request::units::path_size_at(path, 3 * c + 1);
+    let z = request::units::path_size_at(path, 3 * c + 2);
     x + y + z != 1024
 }
 

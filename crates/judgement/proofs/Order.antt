@@ -4,7 +4,7 @@ use mathlib.Core.Bool.{true, false}
 use mathlib.Core.List.{List}
 use mathlib.Core.Option.{Option, none, some}
 use Prim.Native.Nat.{ℕ}
-use Rattle.units.specs.Bounds.{stale}
+use Rattle.request.specs.units.Bounds.{stale}
 use Rattle.request.specs.declared.Answer.{Answer}
 use Rattle.request.specs.Cascade.{Test, first, refused, decided}
 use Rattle.request.specs.Refusal.{notKind, notDegree}

@@ -5,7 +5,7 @@ use mathlib.Core.List.{List, [], _∷_}
 use Prim.Native.Nat.{ℕ}
 use lib.Dec.{ltb, eqb}
 use lib.ListN.{length}
-use Rattle.units.specs.Bounds.{stale}
+use Rattle.request.specs.units.Bounds.{stale}
 use Rattle.request.specs.declared.Answer.{Answer}
 use Rattle.request.specs.declared.Rooms.{Rooms}
 use Rattle.request.specs.Head.{mostPoints}

@@ -9,7 +9,7 @@ ghost use Rattle.judgement.specs.Judgement.{notFrame, tested as testedIn
 ghost use Rattle.judgement.specs.Opening.{Read, Opens};
 use request::Answer;
 use request::Head;
-use units::Age;
+use request::units::Age;
 
 // A record's head, the age of its tilt sample, the byte at which its numbers begin, and the refusal by the door's own table:
 // number 0 where none of its tests holds.
@@ -105,7 +105,7 @@ fn tested(request: &[u8], head: Head, age: Age, from: usize) -> Answer
         return request::refusal(2, 0);
     }
     let end = body_end(from, head);
-    let old = units::is_stale(age);
+    let old = request::units::is_stale(age);
     let other_length = request.len() != end;
     if old {
         return request::refusal(10, 0);

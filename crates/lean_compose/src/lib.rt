@@ -5,7 +5,7 @@ ghost use Rattle.lean_compose.specs.Exported.{requestOf, Exported};
 use crossing::put;
 use crossing::put_answer;
 use request::Head;
-use units::Age;
+use request::units::Age;
 
 // Composes a surface and a path, on a tilt sample of the given age in milliseconds, and writes the number, the place and
 // the count of the answer and the entries that were formed to the first four of `words`: 0. Where `words` has fewer than four

@@ -21,7 +21,7 @@ use Rattle.whole.proofs.Binomial.{weighed, weighed-scale, vandermonde-from, cho
 use Rattle.whole.proofs.Rounding.{nearest-size}
 use Rattle.pascal.specs.Entry.{largest}
 use Rattle.pascal.proofs.Entries.{choose-most}
-use Rattle.units.proofs.Within.{IsPath}
+use Rattle.request.proofs.units.Within.{IsPath}
 use Rattle.request.specs.Head.{degree, longest, numbers}
 use Rattle.request.specs.Request.{Request}
 use Rattle.request.proofs.Forms.{degree-most, longest-most, at-curve, at-tensor, at-triangle}

@@ -14,8 +14,8 @@ ghost use Rattle.patch.specs.patch_sums.Contract.{indexOf};
 ghost use Rattle.patch.specs.Writing.{Fitting, Fits, Put, Wrote};
 use crate::patch_sums::Place;
 use request::Answer;
+use request::units::Travel;
 use two_words::Words;
-use units::Travel;
 use whole::Num;
 
 fn put_exact(exact: &mut [i64], R: usize, x: Num)
@@ -54,7 +54,11 @@ fn write_place(sums: &[i64], n: usize, at: Place, R: usize, exact: &mut [i64], p
     let v = two_words::joined(sums, crate::patch_sums::key(at));
     let d = crate::patch_sums::multinomial(at);
     put_exact(exact, R, single(v));
-    put_point(points, R, units::travel_of(two_words::rounded(v, d, n)));
+    put_point(
+        points,
+        R,
+        request::units::travel_of(two_words::rounded(v, d, n)),
+    );
 }
 
 // Writes every place of a patch of degree L, whose outer degree is n.

@@ -74,8 +74,8 @@ fn fill(N: usize, path: &[i32], t: &mut [u32; 40])
     let mut at = Place { i: 0, j: 0, k: N };
     let mut c = 0;
     while c < count {
-        let a = units::path_size_at(path, 3 * c);
-        let b = units::path_size_at(path, 3 * c + 1);
+        let a = request::units::path_size_at(path, 3 * c);
+        let b = request::units::path_size_at(path, 3 * c + 1);
         sums::store_term(t, c, key(at) as u64, multinomial(at), a, b);
         at = next(at);
         c += 1;
@@ -88,7 +88,12 @@ pub fn numerators(n: usize, N: usize, surface: &[i32], path: &[i32], sums: &mut 
     ensures { λ _. ⌜ Summed (patchOf n N (now (surface .entry)) (now (path .entry))) (now (sums .exit)) ⌝ }
 {
     if n == 0 {
-        limbs::settle(sums, 0, 1, units::units_of(units::travel_at(surface, 0)));
+        limbs::settle(
+            sums,
+            0,
+            1,
+            request::units::units_of(request::units::travel_at(surface, 0)),
+        );
         return;
     }
     let mut t = [0u32; 40];

@@ -15,7 +15,7 @@ use Rattle.whole.specs.Choose.{chooseFrom}
 use Rattle.whole.proofs.Ring.{_⊗_, mul-ac, one-⊗, ⊗-assoc, pos-mul}
 use Rattle.whole.proofs.Bound.{_⊑_, ⊑-of, ⊑-le, ⊑-scale}
 use Rattle.whole.proofs.Rounding.{nearest-size}
-use Rattle.units.proofs.Within.{IsPath}
+use Rattle.request.proofs.units.Within.{IsPath}
 use Rattle.request.specs.Refusal.{uneven}
 use Rattle.request.proofs.Least.{least-before}
 use Rattle.request.proofs.Bounds.{path-numbers, travels, uneven-is}

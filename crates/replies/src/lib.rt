@@ -47,7 +47,7 @@ fn write_numbers(numbers: &[i32], bytes: &mut [u8])
 {
     let mut k = 0;
     while k < numbers.len() {
-        let n = units::units_of(units::travel_at(numbers, k));
+        let n = request::units::units_of(request::units::travel_at(numbers, k));
         put_word(bytes, 2 * k, word_of(n));
         k += 1;
     }

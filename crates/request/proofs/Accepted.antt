@@ -2,7 +2,7 @@
 use mathlib.Core.Path.{_≡_, refl}
 use mathlib.Core.Bool.{false}
 use Prim.Native.Nat.{ℕ}
-use Rattle.units.specs.Bounds.{stale}
+use Rattle.request.specs.units.Bounds.{stale}
 use Rattle.request.specs.declared.Rooms.{Rooms}
 use Rattle.request.specs.Request.{Request}
 use Rattle.request.specs.Refusal.{notKind, notDegree, notSurface, notPath, notRoom, notValue, notParameter, notBalance, accepted, refusals, answer}

@@ -9,8 +9,8 @@ use native.Mathlib.Omega.{arith}
 use lib.IntN.{ℤ, pos, negℤ, natAbs, _+ℤ_}
 use lib.Dec.{eqb}
 use lib.ListN.{length, getD, length-map, List·getD-map, List·getD-eq-default}
-use Rattle.units.specs.Bounds.{beyondTravel, beyondPath, pathOne, most}
-use Rattle.units.proofs.Within.{IsPath, path-within, zero-within, travel-within, within-travel, beyond-neg}
+use Rattle.request.specs.units.Bounds.{beyondTravel, beyondPath, pathOne, most}
+use Rattle.request.proofs.units.Within.{IsPath, path-within, zero-within, travel-within, within-travel, beyond-neg}
 use Rattle.request.specs.Refusal.{least, valuePlace, parameterPlace, balancePlace, uneven, isNumber}
 use Rattle.request.proofs.Least.{least-none, least-before, least-le}
 

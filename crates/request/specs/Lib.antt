@@ -3,3 +3,4 @@ pub mod Head
 pub mod Request
 pub mod Cascade
 pub mod Refusal
+pub mod units

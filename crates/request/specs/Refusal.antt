@@ -6,7 +6,7 @@ use Prim.Native.Nat.{ℕ, zero, suc, _+_, _*_}
 use lib.IntN.{ℤ, pos, negsuc, _+ℤ_}
 use lib.Dec.{ltb, eqb}
 use lib.ListN.{length, getD}
-use Rattle.units.specs.Bounds.{beyondTravel, beyondPath, stale, pathOne}
+use Rattle.request.specs.units.Bounds.{beyondTravel, beyondPath, stale, pathOne}
 use Rattle.request.specs.declared.Answer.{Answer}
 use Rattle.request.specs.declared.Head.{Head}
 use Rattle.request.specs.declared.Rooms.{Rooms}

@@ -1,5 +1,7 @@
 // 01's request (rule Forms and degrees) and what is answered to it (rule Refusals), and what follows from the head alone: KIND,
 // DEGREE and the counts. The refusals, as one table, are definitions here; `judge`, a crate above, goes down the table.
+pub mod units;
+
 ghost use mathlib.Core.Path.{_≡_};
 ghost use mathlib.Core.Bool.{false};
 ghost use Rattle.request.specs.Head.{degree, surfaceCount, pathCount};

@@ -51,7 +51,7 @@ fn beside(path: &[i32], per: usize, c: usize) -> u64
     if per < 2 {
         return 0;
     }
-    units::path_size_at(path, per * c + 1)
+    request::units::path_size_at(path, per * c + 1)
 }
 
 // Stores term c, of a ride or of a patch.
@@ -75,7 +75,7 @@ fn fill(head: Head, path: &[i32], t: &mut [u32; 40])
     let mut c = 0;
     while c <= n {
         let per = numbers(head);
-        let a = units::path_size_at(path, per * c);
+        let a = request::units::path_size_at(path, per * c);
         let b = beside(path, per, c);
         store_term(t, c, c as u64, pascal::weight(n, c), a, b);
         c += 1;
@@ -88,7 +88,7 @@ fn fill(head: Head, path: &[i32], t: &mut [u32; 40])
 fn travel(surface: &[i32], i: usize) -> Num
     ensures { λ r. ⌜ r .0 ≡ getD (now (surface .entry)) i (pos 0) ⌝ }
 {
-    units::units_of(units::travel_at(surface, i))
+    request::units::units_of(request::units::travel_at(surface, i))
 }
 
 // Control values a, b and c.

@@ -9,7 +9,7 @@ use lib.Signed.{nonNeg}
 use Rattle.whole.specs.Round.{halfUp, onSideOf, nearest}
 use Rattle.whole.proofs.Bound.{natAbs-add, natAbs-mul}
 use Rattle.whole.proofs.Rounding.{half-up-only, nearest-size}
-use Rattle.units.specs.Bounds.{most}
+use Rattle.request.specs.units.Bounds.{most}
 use Rattle.tick.specs.Reading.{momentOne, parts, carried, between}
 use Rattle.tick.specs.Carried.{carriedMost}
 

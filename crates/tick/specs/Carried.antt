@@ -4,7 +4,7 @@ use mathlib.Core.List.{List}
 use Prim.Native.Nat.{ℕ, _*_, _≤_}
 use lib.IntN.{ℤ, pos, natAbs}
 use lib.ListN.{length, getD}
-use Rattle.units.specs.Bounds.{most}
+use Rattle.request.specs.units.Bounds.{most}
 use Rattle.tick.specs.Reading.{mostPoints, parts}
 
 abbrev pub carriedMost : ℕ

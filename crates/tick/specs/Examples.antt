@@ -7,7 +7,7 @@ use Prim.Native.Nat.{ℕ}
 use lib.IntN.{ℤ, pos, negℤ}
 use lib.ListN.{replicate}
 use Rattle.whole.specs.Round.{halfUp, onSideOf, nearest}
-use Rattle.units.specs.Bounds.{beyondTravel}
+use Rattle.request.specs.units.Bounds.{beyondTravel}
 use Rattle.request.specs.Cascade.{first, refused, decided}
 use Rattle.request.specs.Refusal.{least, valuePlace}
 use Rattle.tick.specs.declared.Tick.{Tick}

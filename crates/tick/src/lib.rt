@@ -47,7 +47,7 @@ fn carried_at(points: &[i32], i: usize) -> Num
 {
     whole::product(
         whole::plus(65536),
-        units::units_of(units::travel_at(points, i)),
+        request::units::units_of(request::units::travel_at(points, i)),
     )
 }
 

@@ -7,7 +7,7 @@ use lib.ListN.{replicate}
 use Rattle.whole.specs.Sum.{sumOver}
 use Rattle.whole.specs.Choose.{choose}
 use Rattle.whole.specs.Round.{halfUp, onSideOf, nearest}
-use Rattle.units.specs.Bounds.{beyondTravel, beyondPath}
+use Rattle.request.specs.units.Bounds.{beyondTravel, beyondPath}
 use Rattle.request.specs.Cascade.{first, refused, decided}
 use Rattle.request.specs.Refusal.{least, valuePlace, parameterPlace, uneven, isNumber}
 use Rattle.net.specs.Net.{rowStart}

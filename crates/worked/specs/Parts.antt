@@ -11,7 +11,7 @@ use lib.ListN.{length}
 use lib.Ieee.{binary64, eq, ofInt, ofBits, toBits}
 use Rattle.whole.specs.Sum.{sumOver, sumTo}
 use Rattle.whole.specs.Choose.{choose}
-use Rattle.units.specs.Bounds.{beyondTravel, beyondPath}
+use Rattle.request.specs.units.Bounds.{beyondTravel, beyondPath}
 use Rattle.request.specs.declared.Answer.{Answer}
 use Rattle.request.specs.Head.{byForm, degree, longest, surfaceCount, numbers}
 use Rattle.request.specs.Request.{Request}

@@ -5,7 +5,7 @@ use mathlib.Core.Bool.{false}
 use mathlib.Core.List.{List, [], _∷_, map}
 use Prim.Native.Nat.{ℕ}
 use Rattle.whole.specs.Round.{halfUp, onSideOf, nearest}
-use Rattle.units.specs.Bounds.{beyondTravel}
+use Rattle.request.specs.units.Bounds.{beyondTravel}
 use Rattle.request.specs.Cascade.{first, refused, decided}
 use Rattle.request.specs.Refusal.{least, valuePlace}
 use Rattle.spell.specs.Decimal.{digitsOf, digits, decimal}

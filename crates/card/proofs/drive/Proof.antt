@@ -8,7 +8,7 @@ use lib.IntN.{pos}
 use lib.ListN.{drop}
 use borrow.Author.Needs.{needs}
 use borrow.Author.Tests.{lt-ltb, le-ltb, eq-eqb, ne-eqb}
-use Rattle.units.specs.Bounds.{beyondPath}
+use Rattle.request.specs.units.Bounds.{beyondPath}
 use Rattle.request.specs.declared.Answer.{Answer}
 use Rattle.request.specs.declared.Head.{Head}
 use Rattle.request.specs.Head.{surfaceCount, longest}

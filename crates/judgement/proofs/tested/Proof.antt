@@ -6,7 +6,7 @@ use Prim.Native.Nat.{ℕ}
 use lib.Dec.{eqb}
 use lib.ListN.{length}
 use borrow.Author.Needs.{needs}
-use Rattle.units.specs.Bounds.{stale}
+use Rattle.request.specs.units.Bounds.{stale}
 use Rattle.request.specs.Refusal.{notKind, notDegree}
 use Rattle.judgement.specs.Record.{headIn, startIn, ageIn, bodyEnd}
 use Rattle.judgement.specs.Judgement.{notFrame, notBody}

@@ -1,7 +1,7 @@
 -- `judge::places::is_beyond` meets its contract: the number is read as its kind, and tested as its kind. Assumes nothing.
 use mathlib.Core.Path.{ap, _∙_}
 use borrow.Author.Needs.{needs}
-use Rattle.units.specs.Bounds.{beyondTravel, beyondPath}
+use Rattle.request.specs.units.Bounds.{beyondTravel, beyondPath}
 use Rattle.judge.proofs.places.is_beyond.Statement.{statement}
 use Rattle.judge.proofs.places.is_beyond.Tie as tie
 

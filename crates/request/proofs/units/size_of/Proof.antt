@@ -12,8 +12,8 @@ use lib.Dec.{T, leb·suc-zero}
 use mir.Syntax.{w32, w64}
 use mir.Val.{SFits, Fits}
 use mir.Facts.{toZ-ofZ, sfits-widen}
-use Rattle.units.proofs.size_of.Statement.{statement}
-use Rattle.units.proofs.size_of.Tie as tie
+use Rattle.request.proofs.units.size_of.Statement.{statement}
+use Rattle.request.proofs.units.size_of.Tie as tie
 
 size : (z : ℤ) → natAbs z ≤ suc (mag z)
 size (pos n) = le-suc n

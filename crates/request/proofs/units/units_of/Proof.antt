@@ -4,8 +4,8 @@ use native.Mathlib.Omega.{arith}
 use mir.Syntax.{w32}
 use mir.Val.{SFits}
 use mir.Facts.{toZ-ofZ, sfits-widen}
-use Rattle.units.proofs.units_of.Statement.{statement}
-use Rattle.units.proofs.units_of.Tie as tie
+use Rattle.request.proofs.units.units_of.Statement.{statement}
+use Rattle.request.proofs.units.units_of.Tie as tie
 
 fits : (c : tie.After-struct-told) → SFits w32 (c .before .before .args .t .0)
 fits c = record { sfits = omega arith }

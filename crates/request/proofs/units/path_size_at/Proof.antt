@@ -2,8 +2,8 @@
 use mathlib.Core.Path.{_∙_, ap}
 use lib.IntN.{natAbs}
 use borrow.Author.Needs.{needs}
-use Rattle.units.proofs.path_size_at.Statement.{statement}
-use Rattle.units.proofs.path_size_at.Tie as tie
+use Rattle.request.proofs.units.path_size_at.Statement.{statement}
+use Rattle.request.proofs.units.path_size_at.Tie as tie
 
 path-number-at-requires : tie.Need-path-number-at-requires
 path-number-at-requires c κs = search needs

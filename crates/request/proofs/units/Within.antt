@@ -8,7 +8,7 @@ use lib.IntN.{ℤ, pos, negsuc, negℤ, natAbs}
 use lib.Dec.{ltb}
 use borrow.Author.Tests.{le-ltb, ltb-false}
 use Rattle.whole.proofs.Bound.{natAbs-neg}
-use Rattle.units.specs.Bounds.{beyondTravel, beyondPath, pathOne, most}
+use Rattle.request.specs.units.Bounds.{beyondTravel, beyondPath, pathOne, most}
 
 pub travel-within : (z : ℤ) → beyondTravel z ≡ false → natAbs z ≤ most
 unfolding beyondTravel

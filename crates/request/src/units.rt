@@ -4,7 +4,7 @@ ghost use mathlib.Core.Path.{_≡_};
 ghost use Prim.Native.Nat.{_≤_};
 ghost use lib.IntN.{pos, natAbs};
 ghost use lib.ListN.{getD};
-ghost use Rattle.units.specs.Bounds.{beyondTravel, beyondPath, most, stale};
+ghost use Rattle.request.specs.units.Bounds.{beyondTravel, beyondPath, most, stale};
 use whole::Num;
 
 // A place along the path's own numbers: 1024 is one.

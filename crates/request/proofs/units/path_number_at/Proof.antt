@@ -3,8 +3,8 @@ use mathlib.Core.Path.{sym}
 use lib.IntN.{pos}
 use lib.ListN.{List·getD-eq-default}
 use borrow.Author.Needs.{needs}
-use Rattle.units.proofs.path_number_at.Statement.{statement}
-use Rattle.units.proofs.path_number_at.Tie as tie
+use Rattle.request.proofs.units.path_number_at.Statement.{statement}
+use Rattle.request.proofs.units.path_number_at.Tie as tie
 
 mul-t6 : tie.Need-mul-t6
 mul-t6 c = search needs

@@ -8,9 +8,9 @@ use lib.Dec.{leb·suc-suc}
 use mir.Syntax.{w32}
 use mir.Val.{SFits}
 use mir.Facts.{toZ-ofZ}
-use Rattle.units.specs.Bounds.{beyondTravel}
-use Rattle.units.proofs.beyond_travel.Statement.{statement}
-use Rattle.units.proofs.beyond_travel.Tie as tie
+use Rattle.request.specs.units.Bounds.{beyondTravel}
+use Rattle.request.proofs.units.beyond_travel.Statement.{statement}
+use Rattle.request.proofs.units.beyond_travel.Tie as tie
 
 under : (z : ℤ) → ltZ z (negsuc 4095) ≡ true → true ≡ beyondTravel z
 unfolding beyondTravel

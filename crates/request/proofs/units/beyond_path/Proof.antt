@@ -7,9 +7,9 @@ use lib.Signed.{ltZ}
 use mir.Syntax.{w32}
 use mir.Val.{SFits}
 use mir.Facts.{toZ-ofZ}
-use Rattle.units.specs.Bounds.{beyondPath}
-use Rattle.units.proofs.beyond_path.Statement.{statement}
-use Rattle.units.proofs.beyond_path.Tie as tie
+use Rattle.request.specs.units.Bounds.{beyondPath}
+use Rattle.request.proofs.units.beyond_path.Statement.{statement}
+use Rattle.request.proofs.units.beyond_path.Tie as tie
 
 under : (z : ℤ) → ltZ z (pos 0) ≡ true → true ≡ beyondPath z
 unfolding beyondPath

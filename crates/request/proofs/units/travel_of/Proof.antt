@@ -6,8 +6,8 @@ use lib.IntN.{ℤ, pos, negsuc, natAbs}
 use mir.Syntax.{w32, w64}
 use mir.Val.{SFits}
 use mir.Facts.{toZ-ofZ, sfits-widen}
-use Rattle.units.proofs.travel_of.Statement.{statement}
-use Rattle.units.proofs.travel_of.Tie as tie
+use Rattle.request.proofs.units.travel_of.Statement.{statement}
+use Rattle.request.proofs.units.travel_of.Tie as tie
 
 small : (z : ℤ) → natAbs z ≤ 4096 → SFits w32 z
 small (pos n) m = record { sfits = omega arith }
