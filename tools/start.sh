@@ -1,15 +1,15 @@
-# Sourced by `run` and by every installed program, with `start`, the words before a program's path, set.
+# Sourced by `run` and by every installed program.
 # started PROGRAM ARGS..: runs a program with this command's input and output and leaves with the verdict that it tells: 0, 1 or
 # 2, written to descriptor 198 (crates/files/src/told.rt). A program that a signal ends tells none, and its status is that;
 # what it was making beside the name of an output is taken away.
-# shellcheck shell=bash disable=SC2154
+# shellcheck shell=bash
 started() {
     local told child word status=0 verdict=''
     exec {told}<> <(:)
     # In the background, so that a signal sent to this command alone reaches the program at once; a terminal's are not ignored.
     (
         trap - INT QUIT
-        exec "${start[@]}" "$@" 198>&"$told" {told}>&-
+        exec "$@" 198>&"$told" {told}>&-
     ) <&0 &
     child=$!
     for signal in HUP INT QUIT TERM; do

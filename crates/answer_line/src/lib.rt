@@ -1,5 +1,7 @@
 // The answer lines, written into a lent buffer: of a request, its number, place, count and entries, then both lists; of a reading
 // at a tick, its number, place and reading.
+#![tactic(auto)]
+
 mod long_decimal;
 
 ghost use Rattle.std.specs.Prelude.{[], ◌∷◌, ◌≡◌, ◌+◌, ◌*◌, ◌≤◌, ◌<◌, pos, length, get_or};

@@ -9,7 +9,7 @@ use two_words::Words;
 const BASE: u64 = 4294967296;
 
 // A size by two words over ten: the quotient by two words, and what is left.
-#[derive(Drop)]
+#[derive(Clone, Copy)]
 pub struct Tenth {
     pub high: u64,
     pub low: u64,

@@ -1,10 +1,12 @@
 // The words of a command line, the same in every program.
+#![tactic(auto)]
+
 ghost use Rattle.std.specs.Prelude.{◌≡◌, ◌&&◌, ◌≤◌, eqb, ltb, length, get_or};
 ghost use Rattle.args.specs.Args.{alike, kind_of, prefixed, digit_of, number_in};
 
 // What a word is: it asks for the help text, for the version; it says that what follows are names; it is an option; or it names
 // an input.
-#[derive(Drop)]
+#[derive(Clone, Copy)]
 pub enum Kind {
     Help,
     Version,
@@ -14,7 +16,7 @@ pub enum Kind {
 }
 
 // A number, one that is too large, or none.
-#[derive(Drop)]
+#[derive(Clone, Copy)]
 pub enum Number {
     Is(u64),
     TooLarge,

@@ -1,10 +1,11 @@
 // The inputs that the arguments name, one after the other.
 use args::Kind;
 use files::program::kind_at;
+use std::rt::HostRuntime;
 use streams::Stream;
 
 // The two outputs, the verdict so far, and whether `--` has come.
-#[derive(Drop)]
+#[derive(Clone, Copy)]
 struct Sofar {
     out: Stream,
     err: Stream,
@@ -17,10 +18,10 @@ fn worse(a: u64, b: u64) -> u64 {
 }
 
 // The input that argument i names, or standard input where that is 0.
-fn answer(i: usize, by_names: bool, sofar: Sofar) -> Sofar {
+fn answer(rt: HostRuntime, i: usize, by_names: bool, sofar: Sofar) -> Sofar {
     let mut next = sofar;
     let mut name = io::buffer();
-    let input = files::open(i, &mut name);
+    let input = files::open(rt, i, &mut name);
     let n = input.size;
     let from = input.stream;
     if from.failed {
@@ -28,7 +29,14 @@ fn answer(i: usize, by_names: bool, sofar: Sofar) -> Sofar {
         next.verdict = 2;
         return next;
     }
-    let asked = asking::answer_all(from, &name[..n], by_names, sofar.out, sofar.err);
+    let asked = asking::answer_all(
+        from,
+        &input.source,
+        &name[..n],
+        by_names,
+        sofar.out,
+        sofar.err,
+    );
     let read = asked.input;
     let out = asked.out;
     let err = asked.err;
@@ -42,7 +50,7 @@ fn answer(i: usize, by_names: bool, sofar: Sofar) -> Sofar {
         files::told::trouble(b"ask", &name[..n]);
         next.verdict = 2;
     }
-    files::close(read);
+    files::close(input.source);
     if asked.unreadable {
         next.verdict = worse(next.verdict, 1);
     }
@@ -50,14 +58,14 @@ fn answer(i: usize, by_names: bool, sofar: Sofar) -> Sofar {
 }
 
 // Argument i, where it names an input.
-fn answer_at(i: usize, by_names: bool, sofar: Sofar) -> Sofar {
+fn answer_at(rt: HostRuntime, i: usize, by_names: bool, sofar: Sofar) -> Sofar {
     let mut next = sofar;
-    match kind_at(i, sofar.rest) {
+    match kind_at(rt, i, sofar.rest) {
         Kind::Rest => {
             next.rest = true;
         }
         Kind::Name => {
-            next = answer(i, by_names, sofar);
+            next = answer(rt, i, by_names, sofar);
         }
         _ => {}
     }
@@ -65,11 +73,11 @@ fn answer_at(i: usize, by_names: bool, sofar: Sofar) -> Sofar {
 }
 
 // Each input, until an answer cannot be written; the verdict on all of them.
-fn answer_each(count: usize, by_names: bool, begun: Sofar) -> u64 {
+fn answer_each(rt: HostRuntime, count: usize, by_names: bool, begun: Sofar) -> u64 {
     let mut sofar = begun;
     let mut i = 1;
     while i < count {
-        sofar = answer_at(i, by_names, sofar);
+        sofar = answer_at(rt, i, by_names, sofar);
         let out = sofar.out;
         if out.failed {
             return sofar.verdict;
@@ -80,7 +88,7 @@ fn answer_each(count: usize, by_names: bool, begun: Sofar) -> u64 {
 }
 
 // All that the arguments ask for.
-pub fn answer_all(by_names: bool, inputs: usize) -> u64 {
+pub fn answer_all(rt: HostRuntime, by_names: bool, inputs: usize) -> u64 {
     let begun = Sofar {
         out: streams::standard_output(),
         err: streams::standard_error(),
@@ -88,7 +96,7 @@ pub fn answer_all(by_names: bool, inputs: usize) -> u64 {
         rest: false,
     };
     if inputs == 0 {
-        return answer(0, by_names, begun).verdict;
+        return answer(rt, 0, by_names, begun).verdict;
     }
-    answer_each(os::arg_count(), by_names, begun)
+    answer_each(rt, files::argument_count(rt), by_names, begun)
 }

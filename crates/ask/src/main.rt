@@ -1,13 +1,16 @@
 // Answers request lines: it reads the inputs that its arguments name, or standard input where there are none, and writes an
 // answer line for each request line. What is wrong with a line goes to standard error.
+#![tactic(auto)]
+
 mod help;
 mod input;
 mod wish;
 
+use std::rt::HostRuntime;
 use wish::Wish;
 
 // Does what is wished, and answers the verdict.
-fn done(wish: Wish) -> u64 {
+fn done(rt: HostRuntime, wish: Wish) -> u64 {
     if wish.end == wish::HELP {
         return help::print();
     }
@@ -15,12 +18,12 @@ fn done(wish: Wish) -> u64 {
         return files::told::version(b"ask");
     }
     if wish.end != wish::ALL {
-        files::told::complain(b"ask", b"unknown option", wish.at);
+        files::told::complain(rt, b"ask", b"unknown option", wish.at);
         return 2;
     }
-    input::answer_all(wish.by_names, wish.inputs)
+    input::answer_all(rt, wish.by_names, wish.inputs)
 }
 
-fn main() {
-    files::told::verdict(done(wish::read(os::arg_count())));
+fn main(rt: HostRuntime) {
+    files::told::verdict(done(rt, wish::read(rt, files::argument_count(rt))));
 }

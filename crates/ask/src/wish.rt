@@ -1,10 +1,11 @@
 // What the arguments ask for.
 use args::Kind;
 use files::program::{is_at, kind_at};
+use std::rt::HostRuntime;
 
 // `inputs` is how many inputs are named; behind `rest` every word names one; `end` says why the reading of the arguments ended, at
 // argument `at`.
-#[derive(Drop)]
+#[derive(Clone, Copy)]
 pub struct Wish {
     pub by_names: bool,
     pub rest: bool,
@@ -37,9 +38,9 @@ fn more(n: usize) -> usize {
 }
 
 // What argument i adds.
-fn with(wish: Wish, i: usize) -> Wish {
+fn with(rt: HostRuntime, wish: Wish, i: usize) -> Wish {
     let mut then = wish;
-    match kind_at(i, wish.rest) {
+    match kind_at(rt, i, wish.rest) {
         Kind::Help => ended(wish, i, HELP),
         Kind::Version => ended(wish, i, VERSION),
         Kind::Rest => {
@@ -47,7 +48,7 @@ fn with(wish: Wish, i: usize) -> Wish {
             then
         }
         Kind::Option => {
-            if is_at(i, b"--names") {
+            if is_at(rt, i, b"--names") {
                 then.by_names = true;
                 return then;
             }
@@ -61,7 +62,7 @@ fn with(wish: Wish, i: usize) -> Wish {
 }
 
 // The first argument that is not understood, or asks for a text, ends the reading of them.
-pub fn read(count: usize) -> Wish {
+pub fn read(rt: HostRuntime, count: usize) -> Wish {
     let mut wish = Wish {
         by_names: false,
         rest: false,
@@ -71,7 +72,7 @@ pub fn read(count: usize) -> Wish {
     };
     let mut i = 1;
     while i < count {
-        wish = with(wish, i);
+        wish = with(rt, wish, i);
         if wish.end != ALL {
             return wish;
         }

@@ -12,7 +12,7 @@ use text::kinds::{Replied, begin, is_kind};
 use text::words::next;
 
 // How many bytes of the answer and of the complaint were written.
-#[derive(Drop)]
+#[derive(Clone, Copy)]
 pub struct Lengths {
     pub answer: usize,
     pub complaint: usize,

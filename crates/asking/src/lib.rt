@@ -1,5 +1,7 @@
 // Answering an input: parts of it are read, and what `answers` says to a line is written out where the line ends. What a file
 // holds is not known here; it is promised that what was written is what is told of what was read.
+#![tactic(auto)]
+
 mod answers;
 mod patch_line;
 mod reply;
@@ -11,10 +13,10 @@ ghost use Rattle.asking.specs.Told.{shown_by, telling};
 ghost use Rattle.asking.specs.Asked.{Puts, Carries, Read, Answered};
 
 use crate::answers::{Lines, Taken};
-use streams::Stream;
+use streams::{Source, Stream};
 
 // Where the answering stands: how much of a line is kept, the outputs, and whether a line could not be read.
-#[derive(Drop)]
+#[derive(Clone, Copy)]
 struct State {
     lines: Lines,
     out: Stream,
@@ -23,7 +25,7 @@ struct State {
 }
 
 // Whether there may be more to read, and the input and the state behind a part.
-#[derive(Drop)]
+#[derive(Clone, Copy)]
 struct Turn {
     go: bool,
     input: Stream,
@@ -31,7 +33,7 @@ struct Turn {
 }
 
 // The streams behind an input that was answered, whether a line was unreadable, and whether the input was read to its end.
-#[derive(Drop)]
+#[derive(Clone, Copy)]
 pub struct Asked {
     pub input: Stream,
     pub out: Stream,
@@ -134,6 +136,7 @@ fn take_part(part: &[u8], name: &[u8], by_names: bool, line: &mut [u8], state: S
 // Reads once.
 fn take_some(
     input: Stream,
+    source: &Source,
     name: &[u8],
     by_names: bool,
     part: &mut [u8],
@@ -142,7 +145,7 @@ fn take_some(
 ) -> Turn
     ensures { Read (telling name.now by_names) line.old input state line.new result.input result.state }
 {
-    let got = streams::read(input, part);
+    let got = streams::read(input, source, part);
     let n = got.count;
     let behind = got.stream;
     let next = take_part(&part[..n], name, by_names, line, state);
@@ -165,6 +168,7 @@ fn take_some(
 // counts its turns down from a number that no run uses up.
 fn read_all(
     input: Stream,
+    source: &Source,
     name: &[u8],
     by_names: bool,
     part: &mut [u8],
@@ -180,7 +184,7 @@ fn read_all(
     };
     let mut turns = u64::MAX;
     while turns > 0 {
-        turn = take_some(turn.input, name, by_names, part, line, turn.state);
+        turn = take_some(turn.input, source, name, by_names, part, line, turn.state);
         if !turn.go {
             return turn;
         }
@@ -204,7 +208,14 @@ fn left(input: Stream, state: State, ended: bool) -> Asked
 }
 
 // Answers an input that has a name, whose last line may have no newline. A line that a failed read has begun is not answered.
-pub fn answer_all(input: Stream, name: &[u8], by_names: bool, out: Stream, err: Stream) -> Asked
+pub fn answer_all(
+    input: Stream,
+    source: &Source,
+    name: &[u8],
+    by_names: bool,
+    out: Stream,
+    err: Stream,
+) -> Asked
     ensures { Answered (telling name.now by_names) input out err result }
 {
     let mut part = io::large_buffer();
@@ -215,7 +226,7 @@ pub fn answer_all(input: Stream, name: &[u8], by_names: bool, out: Stream, err: 
         err,
         wrong: false,
     };
-    let turn = read_all(input, name, by_names, &mut part, &mut line, state);
+    let turn = read_all(input, source, name, by_names, &mut part, &mut line, state);
     let behind = turn.input;
     let told = turn.state;
     let to = told.out;

@@ -15,7 +15,7 @@ use text::rooms::{Rooms, read_rooms, shown};
 use text::words::Cursor;
 
 // What a patch line says besides its two lists, of which the counts are here, unless the cursor is refused.
-#[derive(Drop)]
+#[derive(Clone, Copy)]
 pub struct Reading {
     pub cursor: Cursor,
     pub n: u32,

@@ -15,7 +15,7 @@ use tick::{Moment, Tick};
 use whole::Num;
 
 // What a tick line says besides its points, of which the count is here, unless the cursor is refused.
-#[derive(Drop)]
+#[derive(Clone, Copy)]
 pub struct Reading {
     pub cursor: Cursor,
     pub count: usize,

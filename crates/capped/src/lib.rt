@@ -1,4 +1,6 @@
 // Counting that cannot go wrong: a number stays at the greatest of 64 bits. No function asks anything of its caller.
+#![tactic(auto)]
+
 ghost use Rattle.std.specs.Prelude.{◌≡◌, ◌+◌};
 ghost use Rattle.capped.specs.Capped.{capped};
 

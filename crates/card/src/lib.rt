@@ -1,5 +1,7 @@
 // The f64 card (rule Part of a curve; 02, ticket 11): a part of a curve in, a record of up to five f64 numerators over 1024^m out,
 // by value. The card computes in f64; its contract, over bits, stands in crate `part`.
+#![tactic(auto)]
+
 ghost use Rattle.std.specs.Prelude.{◌≡◌, false, cond, ◌≤◌, ltb, pos, length, get_or};
 ghost use Rattle.request.specs.units.Bounds.{beyond_path};
 ghost use Rattle.request.specs.Refusal.{value_place};

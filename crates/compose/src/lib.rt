@@ -1,5 +1,7 @@
 // The lean curve composer: the public entry (rule Forms and degrees; 01). A request is judged whole before anything is written; an
 // accepted one has its exact numerators, as a high and a low word each, and its rounded points written to the three lent arrays.
+#![tactic(auto)]
+
 mod writing;
 
 ghost use Rattle.std.specs.Prelude.{◌≡◌};
@@ -24,7 +26,7 @@ fn reported(head: Head, formed: u64) -> u64
 }
 
 // 01's answer (rule Refusals), and how many net entries were formed for it (rule Counting; 02, ticket 7): 0 for form 2 and for a refusal.
-#[derive(Drop)]
+#[derive(Clone, Copy)]
 pub struct Composition {
     pub answer: Answer,
     pub entries: u64,

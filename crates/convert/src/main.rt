@@ -1,11 +1,15 @@
 // Converts an old trace: looks through IN, and writes OUT where it can be converted. What goes wrong is said on standard error, and
 // then OUT is as it was.
+#![tactic(auto)]
+
 mod night;
 
 use files::program;
+use std::rt::HostRuntime;
 
-fn main() {
+fn main(rt: HostRuntime) {
     let named = program::names(
+        rt,
         b"convert",
         b"usage: convert [--progress] IN OUT\n\
         Makes the old trace IN, in which a request without an age counted as age 0, a trace for today's door, OUT.\n\
@@ -26,6 +30,6 @@ fn main() {
         2,
     );
     if named.go {
-        files::told::verdict(night::convert(named.first, named.second, named.progress));
+        files::told::verdict(night::convert(rt, named.first, named.second, named.progress));
     }
 }

@@ -1,6 +1,9 @@
 // One night: looked through, converted into a file beside OUT, and that file given its name.
+use files::output::Output;
 use files::{output, told};
-use streams::Stream;
+use std::fs::File;
+use std::rt::HostRuntime;
+use streams::{Source, Stream};
 
 fn trouble(what: &[u8]) -> u64 {
     told::trouble(b"convert", what);
@@ -34,71 +37,108 @@ fn differs(seen: renewal::Looked, again: renewal::Renewed) -> bool {
 
 // Converts what comes from an input, which was looked through before, into the output `out`, whose file stands beside its name.
 fn write_beside(
+    rt: HostRuntime,
     seen: renewal::Looked,
     input: Stream,
+    source: &Source,
     from: &[u8],
     out: Stream,
+    file: Option<File>,
     to: &[u8],
     beside: &[u8],
     wanted: bool,
 ) -> u64 {
-    let progress = progress::begin(wanted, input);
-    let renewed = renewal::renew(input, out, progress);
+    let progress = progress::begin(wanted, source);
+    let renewed = renewal::renew(input, source, out, progress);
     let read = renewed.input;
     let written = renewed.out;
     if read.failed {
         let status = trouble(from);
-        output::abandon(written, beside);
+        output::abandon(rt, file, beside);
         return status;
     }
     if differs(seen, renewed) {
-        output::abandon(written, beside);
+        output::abandon(rt, file, beside);
         return say(b"IN is another when it is read again; OUT is as it was\n");
     }
-    if !output::finish(written, to, beside) {
+    if !output::finish(rt, written, file, to, beside) {
         return trouble(to);
     }
     print(false, renewed.changed, seen.out, 0)
 }
 
 // The same, where OUT can be written.
-fn write_out(seen: renewal::Looked, input: Stream, from: &[u8], to: &[u8], wanted: bool) -> u64 {
-    if output::is_input(input, to) {
+fn write_out(
+    rt: HostRuntime,
+    seen: renewal::Looked,
+    input: Stream,
+    source: &Source,
+    from: &[u8],
+    to: &[u8],
+    wanted: bool,
+) -> u64 {
+    if output::is_input(rt, input, to) {
         return say(b"OUT is IN itself, which stays as it is\n");
     }
     let mut beside = io::buffer();
-    let begun = output::begin(to, &mut beside);
-    let n = begun.beside;
-    let out = begun.stream;
+    let Output {
+        stream: out,
+        file,
+        beside: n,
+    } = output::begin(rt, to, &mut beside);
     if out.failed {
         return trouble(to);
     }
-    write_beside(seen, input, from, out, to, &beside[..n], wanted)
+    write_beside(
+        rt,
+        seen,
+        input,
+        source,
+        from,
+        out,
+        file,
+        to,
+        &beside[..n],
+        wanted,
+    )
 }
 
 // Opens IN again.
-fn write_again(seen: renewal::Looked, file: usize, second: usize, wanted: bool) -> u64 {
+fn write_again(
+    rt: HostRuntime,
+    seen: renewal::Looked,
+    file: usize,
+    second: usize,
+    wanted: bool,
+) -> u64 {
     let mut from = io::buffer();
     let mut to = io::buffer();
-    let n = os::arg(second, &mut to);
-    if os::errno() != 0 {
+    let Some(n) = files::argument(rt, second, &mut to) else {
         return trouble(b"OUT");
-    }
-    let input = files::open(file, &mut from);
+    };
+    let input = files::open(rt, file, &mut from);
     let m = input.size;
     let stream = input.stream;
     if stream.failed {
         return trouble(&from[..m]);
     }
-    let status = write_out(seen, stream, &from[..m], &to[..n], wanted);
-    files::close(stream);
+    let status = write_out(
+        rt,
+        seen,
+        stream,
+        &input.source,
+        &from[..m],
+        &to[..n],
+        wanted,
+    );
+    files::close(input.source);
     status
 }
 
 // Looks through IN, which argument `first` names; where it can be converted, OUT is written, which argument `second` names.
-pub fn convert(first: usize, second: usize, wanted: bool) -> u64 {
+pub fn convert(rt: HostRuntime, first: usize, second: usize, wanted: bool) -> u64 {
     let mut from = io::buffer();
-    let input = files::open(first, &mut from);
+    let input = files::open(rt, first, &mut from);
     let m = input.size;
     let stream = input.stream;
     if stream.failed {
@@ -106,18 +146,19 @@ pub fn convert(first: usize, second: usize, wanted: bool) -> u64 {
     }
     let seen = renewal::look(
         stream,
+        &input.source,
         streams::standard_output(),
-        progress::begin(wanted, stream),
+        progress::begin(wanted, &input.source),
     );
     let read = seen.input;
     if read.failed {
         let status = trouble(&from[..m]);
-        files::close(stream);
+        files::close(input.source);
         return status;
     }
-    files::close(stream);
+    files::close(input.source);
     if seen.refused {
         return print(true, seen.changed, seen.out, 1);
     }
-    write_again(seen, first, second, wanted)
+    write_again(rt, seen, first, second, wanted)
 }

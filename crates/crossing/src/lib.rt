@@ -1,4 +1,6 @@
 // How an answer crosses to C and Rust: its numbers in lent words, since a struct does not cross alike on every machine.
+#![tactic(auto)]
+
 ghost use Rattle.std.specs.Prelude.{◌≡◌, set};
 ghost use Rattle.crossing.specs.Answered.{with_answer};
 

@@ -12,7 +12,7 @@ use crate::sheets::{Sheet, Span};
 
 // The bytes of the pair that is not whole yet, with zeros behind them; how many bytes there are from its start on; and the sheet of
 // the pairs before it.
-#[derive(Drop)]
+#[derive(Clone, Copy)]
 pub struct State {
     pub held: [u8; 256],
     pub rest: u64,

@@ -1,5 +1,7 @@
 // A day's trace as it comes from an input: its sheet and the fourteen lines. What a file holds is not known here; it is promised that
 // what was written is the sheet of the bytes that were read.
+#![tactic(auto)]
+
 pub mod daily;
 mod sheet_lines;
 pub mod sheets;
@@ -11,10 +13,10 @@ ghost use Rattle.day.specs.Telling.{Sheets};
 use crate::daily::State;
 use crate::sheets::Sheet;
 use progress::Progress;
-use streams::Stream;
+use streams::{Source, Stream};
 
 // The input and the state behind a part, and how many bytes came.
-#[derive(Drop)]
+#[derive(Clone, Copy)]
 struct Day {
     input: Stream,
     state: State,
@@ -22,7 +24,7 @@ struct Day {
 }
 
 // The input behind a day, the output behind its lines, and its sheet.
-#[derive(Drop)]
+#[derive(Clone, Copy)]
 pub struct Told {
     pub input: Stream,
     pub out: Stream,
@@ -30,10 +32,10 @@ pub struct Told {
 }
 
 // One part more.
-fn read_part(input: Stream, state: State, part: &mut [u8]) -> Day
+fn read_part(input: Stream, source: &Source, state: State, part: &mut [u8]) -> Day
     ensures { Took after_part input state result.input result.state }
 {
-    let got = streams::read(input, part);
+    let got = streams::read(input, source, part);
     let n = got.count;
     let behind = got.stream;
     Day {
@@ -55,10 +57,10 @@ fn tell(progress: Progress, input: Stream) -> Progress {
 }
 
 // Nothing says that a trace ends, and a proved loop has to: it counts its turns down from a number that no run uses up.
-fn read_all(input: Stream, state: State, part: &mut [u8], wanted: bool) -> Day
+fn read_all(input: Stream, source: &Source, state: State, part: &mut [u8], wanted: bool) -> Day
     ensures { Took after_part input state result.input result.state }
 {
-    let mut progress = progress::begin(wanted, input);
+    let mut progress = progress::begin(wanted, source);
     let mut day = Day {
         input,
         state,
@@ -66,7 +68,7 @@ fn read_all(input: Stream, state: State, part: &mut [u8], wanted: bool) -> Day
     };
     let mut turns = u64::MAX;
     while turns > 0 {
-        day = read_part(day.input, day.state, part);
+        day = read_part(day.input, source, day.state, part);
         if day.count == 0 {
             return day;
         }
@@ -78,12 +80,12 @@ fn read_all(input: Stream, state: State, part: &mut [u8], wanted: bool) -> Day
 
 // Reads a day to its end and writes its fourteen lines; where a read failed there are none, since lines of a part could be taken
 // for those of the whole.
-pub fn sheet_all(input: Stream, progress: bool, out: Stream) -> Told
+pub fn sheet_all(input: Stream, source: &Source, progress: bool, out: Stream) -> Told
     ensures { Sheets input out result }
 {
     let mut part = io::large_buffer();
     let mut lines = [0u8; 628];
-    let day = read_all(input, crate::daily::new(), &mut part, progress);
+    let day = read_all(input, source, crate::daily::new(), &mut part, progress);
     let behind = day.input;
     let state = day.state;
     let sheet = state.sheet;

@@ -11,7 +11,7 @@ ghost use Rattle.day.specs.sheets.Fold.{counted_up, with_reply, adds};
 use whole::Num;
 
 // The least and the most of accepted points, where there are any.
-#[derive(Drop)]
+#[derive(Clone, Copy)]
 pub struct Span {
     pub some: bool,
     pub least: i64,
@@ -19,7 +19,7 @@ pub struct Span {
 }
 
 // How many replies were odd, how many of the others have each number 0 to 10, and the least and the most of their points.
-#[derive(Drop)]
+#[derive(Clone, Copy)]
 pub struct Sheet {
     pub odd: u64,
     pub refusals: [u64; 11],

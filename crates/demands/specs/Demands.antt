@@ -23,7 +23,6 @@ use Rattle.net.specs.Net.{row_start, place_of, net_of, number_at, path_number}
 use Rattle.net.specs.Composed.{numerator, denominator, point}
 use Rattle.net.specs.Reading.{bernstein, drawn, coordinate, scale, surface_read}
 use Rattle.net.specs.Mirror.{mirrored}
-use Rattle.net.proofs.Mirror.{answer-mirrored, numerator-mirrored, point-mirrored}
 use Rattle.compose.specs.Afterwards.{afterwards, Arrays, arrays, rooms_of, high_after, low_after, points_after}
 use Rattle.compose.specs.Contract.{Composed}
 use Rattle.lists.proofs.Written.{afterwards-none, afterwards-at, afterwards-past}
@@ -144,9 +143,6 @@ module _ (rq : Request) (age : ℕ) (lent : Arrays) (r : Result) (allowed : Allo
       → get_or (afterwards count f l) R other ≡ f R
   written other f l e R m = let c = all e in afterwards-at count f l R other (omega arith)
 
-  rest : {A : Type 0} (other : A) (f : ℕ → A) (l : List A) → r.answer.number ≡ 0 → Stays other rq l (afterwards count f l)
-  rest other f l e R m = let c = all e in afterwards-past count f l R other (omega arith)
-
   -- where nothing is counted nothing is written
   kept : {A : Type 0} (f : ℕ → A) (l : List A) → count ≡ 0 → afterwards count f l ≡ l
   kept f l z = ap (λ n. afterwards n f l) z ∙ afterwards-none f l
@@ -179,9 +175,9 @@ module _ (rq : Request) (age : ℕ) (lent : Arrays) (r : Result) (allowed : Allo
         )
         (words_are (numerator rq R));
     rounded = λ e R m. rw allowed.points_is (written (pos 0) (point rq) lent.points e R m);
-    high_rest = λ e R m. rw allowed.high_is (rest (pos 0) (λ R. high_word (numerator rq R)) lent.high e R m);
-    low_rest = λ e R m. rw allowed.low_is (rest 0 (λ R. low_word (numerator rq R)) lent.low e R m);
-    points_rest = λ e R m. rw allowed.points_is (rest (pos 0) (point rq) lent.points e R m);
+    high_rest = λ e R m. let c = all e in rw allowed.high_is (afterwards-past count (λ R. high_word (numerator rq R)) lent.high R (pos 0) (omega arith));
+    low_rest = λ e R m. let c = all e in rw allowed.low_is (afterwards-past count (λ R. low_word (numerator rq R)) lent.low R 0 (omega arith));
+    points_rest = λ e R m. let c = all e in rw allowed.points_is (afterwards-past count (point rq) lent.points R (pos 0) (omega arith));
   }
 
   pub demand3 : Demand3 rq r
@@ -190,16 +186,3 @@ module _ (rq : Request) (age : ℕ) (lent : Arrays) (r : Result) (allowed : Allo
         let zero_is = ap (λ (a : Answer). a.number) (sym allowed.answered) ∙ e in
         rw allowed.points_is (at-every-moment rq age lent zero_is k q m);
   }
-
-pub mirror : (rq : Request) (age : ℕ) (lent : Arrays) (r s : Result) → Allowed rq age lent r → Allowed (mirrored rq) age lent s → Mirror rq r s
-unfolding mirrored point denominator
-mirror rq age lent r s here there =
-    let same : s.answer ≡ r.answer = there.answered ∙ answer-mirrored rq age (rooms_of lent) ∙ sym here.answered in
-    let number : r.answer.number ≡ 0 → s.answer.number ≡ 0 = λ e. ap (λ (a : Answer). a.number) same ∙ e in
-    let one = demand2 rq age lent r here in
-    let other = demand2 (mirrored rq) age lent s there in
-    record {
-      answer = same;
-      numerators = λ e R m. (other.numerators (number e) R m).worth ∙ numerator-mirrored rq R ∙ ap neg_ℤ (sym (one.numerators e R m).worth);
-      rounded = λ e R m. other.rounded (number e) R m ∙ point-mirrored rq R ∙ ap neg_ℤ (sym (one.rounded e R m));
-    }

@@ -1,5 +1,7 @@
-// The door for the drive's firmware: one request slice, one lent reply slice. How a record is opened and judged is crate
+// The door for the drive's firmware (for C: crate door_c): one request slice, one lent reply slice. How a record is opened and judged is crate
 // judgement's, how a reply is written crate replies'; of the composer only its promise is known here.
+#![tactic(auto)]
+
 pub mod tally;
 
 ghost use Rattle.std.specs.Prelude.{◌≡◌, ◌+◌, ◌*◌, ◌≤◌, ◌<◌, length, set};
@@ -76,8 +78,7 @@ fn judge_record(request: &[u8], points: &mut [i32]) -> Answer
 
 // Judges a request and composes it. Under the room of the longest reply nothing is written and 0 is answered; otherwise the reply
 // is written to the front of `reply` and its byte count is answered. The two slices never overlap.
-#[unsafe(no_mangle)]
-pub extern "C" fn door_reply(request: &[u8], reply: &mut [u8]) -> usize
+pub fn door_reply(request: &[u8], reply: &mut [u8]) -> usize
     ensures { Answered request.now reply.old result reply.new }
 {
     if reply.len() < replies::ROOM {

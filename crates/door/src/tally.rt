@@ -13,7 +13,7 @@ use fives::{Five, Tally};
 
 // The bytes of the pair that is not whole yet, with zeros behind them; how many bytes there are from its start on; and the
 // numbers of the pairs before it.
-#[derive(Drop)]
+#[derive(Clone, Copy)]
 pub struct Reader {
     pub held: [u8; 256],
     pub rest: u64,
@@ -22,7 +22,7 @@ pub struct Reader {
 
 // Behind a turn of reading a part: how many bytes there are from the start of the pair on that is not whole yet, the numbers of the
 // pairs before it, and how many bytes of the part were taken.
-#[derive(Drop)]
+#[derive(Clone, Copy)]
 struct Turn {
     rest: u64,
     tally: Tally,

@@ -1,10 +1,12 @@
 // Reading a trace in parts, for any fold of its pairs: a byte more of a pair that is not whole yet, which is held in a lent array. No
 // function asks anything of its caller.
+#![tactic(auto)]
+
 ghost use Rattle.std.specs.Prelude.{◌≡◌, ◌++◌, ◌-◌, ◌≤◌, length, take, drop};
 ghost use Rattle.feed.specs.Feed.{zeros, held_of, Puts, Leaves, Hands, after_byte, ahead as ahead_of};
 
 // What a byte did: how many bytes there are from the pair's start on, and whether they are a whole pair.
-#[derive(Drop)]
+#[derive(Clone, Copy)]
 pub struct Turn {
     pub rest: u64,
     pub whole: bool,
@@ -12,7 +14,7 @@ pub struct Turn {
 
 // What a turn handed on: how many bytes there are from the start of the pair that is not whole yet, how many bytes the pair is that
 // is handed on, or 0, and how many bytes of the part were taken.
-#[derive(Drop)]
+#[derive(Clone, Copy)]
 pub struct Handed {
     pub rest: u64,
     pub size: usize,

@@ -1,32 +1,32 @@
 // What every program does with its arguments before its own work: the help text, the version, and what it cannot do.
-use crate::told;
+use crate::{argument, argument_count, argument_or_none, told};
 use args::Kind;
+use std::rt::HostRuntime;
 
 // What argument i is, `rest` where `--` stood before it. One that is too long to be kept is a name, and opening it tells why it
 // cannot be.
-pub fn kind_at(i: usize, rest: bool) -> Kind {
+pub fn kind_at(rt: HostRuntime, i: usize, rest: bool) -> Kind {
     let mut word = io::buffer();
-    let n = os::arg(i, &mut word);
     if rest {
         return Kind::Name;
     }
-    if os::errno() != 0 {
-        return Kind::Name;
+    match argument(rt, i, &mut word) {
+        Some(n) => args::kind_of(&word[..n]),
+        None => Kind::Name,
     }
-    args::kind_of(&word[..n])
 }
 
 // Whether argument i is this word.
-pub fn is_at(i: usize, word: &[u8]) -> bool {
+pub fn is_at(rt: HostRuntime, i: usize, word: &[u8]) -> bool {
     let mut found = io::buffer();
-    let n = os::arg(i, &mut found);
+    let n = argument_or_none(rt, i, &mut found);
     args::is(&found[..n], word)
 }
 
 // What the arguments ask for, of a program whose one option is `--progress`: the arguments that are its first and its second name, 0
 // for none, and one that is a name too many; behind `rest` every word is a name; `end` says why the reading of the arguments ended,
 // at argument `at`.
-#[derive(Drop)]
+#[derive(Clone, Copy)]
 struct Wish {
     progress: bool,
     rest: bool,
@@ -68,9 +68,9 @@ fn with_name(wish: Wish, i: usize) -> Wish {
     next
 }
 
-fn with(wish: Wish, i: usize) -> Wish {
+fn with(rt: HostRuntime, wish: Wish, i: usize) -> Wish {
     let mut next = wish;
-    match kind_at(i, wish.rest) {
+    match kind_at(rt, i, wish.rest) {
         Kind::Help => ended(wish, i, HELP),
         Kind::Version => ended(wish, i, VERSION),
         Kind::Rest => {
@@ -78,7 +78,7 @@ fn with(wish: Wish, i: usize) -> Wish {
             next
         }
         Kind::Option => {
-            if is_at(i, b"--progress") {
+            if is_at(rt, i, b"--progress") {
                 next.progress = true;
                 return next;
             }
@@ -89,7 +89,7 @@ fn with(wish: Wish, i: usize) -> Wish {
 }
 
 // The first argument that asks for a text, or is not understood, ends the reading of them.
-fn read(count: usize) -> Wish {
+fn read(rt: HostRuntime, count: usize) -> Wish {
     let mut wish = Wish {
         progress: false,
         rest: false,
@@ -101,7 +101,7 @@ fn read(count: usize) -> Wish {
     };
     let mut i = 1;
     while i < count {
-        wish = with(wish, i);
+        wish = with(rt, wish, i);
         if wish.end != ALL {
             return wish;
         }
@@ -111,7 +111,7 @@ fn read(count: usize) -> Wish {
 }
 
 // Whether there is work to do, whether to tell how far it is, and the arguments that are its names, 0 where there is none.
-#[derive(Drop)]
+#[derive(Clone, Copy)]
 pub struct Named {
     pub go: bool,
     pub progress: bool,
@@ -137,19 +137,19 @@ fn too_few(program: &[u8]) -> Named {
     settled(2)
 }
 
-fn too_many(program: &[u8], extra: usize) -> Named {
-    told::complain(program, b"one name too many:", extra);
+fn too_many(rt: HostRuntime, program: &[u8], extra: usize) -> Named {
+    told::complain(rt, program, b"one name too many:", extra);
     settled(2)
 }
 
 // Its names, where there are at least and at most so many, up to two.
-fn counted(program: &[u8], wish: Wish, least: usize, most: usize) -> Named {
+fn counted(rt: HostRuntime, program: &[u8], wish: Wish, least: usize, most: usize) -> Named {
     if wish.third != 0 {
-        return too_many(program, wish.third);
+        return too_many(rt, program, wish.third);
     }
     if most < 2 {
         if wish.second != 0 {
-            return too_many(program, wish.second);
+            return too_many(rt, program, wish.second);
         }
     }
     if 0 < least {
@@ -172,8 +172,8 @@ fn counted(program: &[u8], wish: Wish, least: usize, most: usize) -> Named {
 
 // The names of a program's inputs and outputs, at least and at most so many, up to two. Where the arguments ask for the help text
 // or the version, or are not understood, that is told, and so is the verdict.
-pub fn names(program: &[u8], help: &[u8], least: usize, most: usize) -> Named {
-    let wish = read(os::arg_count());
+pub fn names(rt: HostRuntime, program: &[u8], help: &[u8], least: usize, most: usize) -> Named {
+    let wish = read(rt, argument_count(rt));
     if wish.end == HELP {
         return settled(told::text(program, help));
     }
@@ -181,8 +181,8 @@ pub fn names(program: &[u8], help: &[u8], least: usize, most: usize) -> Named {
         return settled(told::version(program));
     }
     if wish.end != ALL {
-        told::complain(program, b"unknown option", wish.at);
+        told::complain(rt, program, b"unknown option", wish.at);
         return settled(2);
     }
-    counted(program, wish, least, most)
+    counted(rt, program, wish, least, most)
 }

@@ -1,5 +1,7 @@
 // The five numbers of a recorded night: how a pair is counted, and the five lines. Whether the recorded reply of a pair is today's is
 // asked elsewhere; the numbers are in specs/Replay.antt.
+#![tactic(auto)]
+
 mod lines;
 
 ghost use Rattle.std.specs.Prelude.{◌≡◌, cond, eqb};
@@ -8,7 +10,7 @@ ghost use Rattle.fives.specs.Count.{counted};
 pub use lines::write_five;
 
 // The five numbers.
-#[derive(Drop)]
+#[derive(Clone, Copy)]
 pub struct Five {
     pub calls: u64,
     pub same: u64,
@@ -18,7 +20,7 @@ pub struct Five {
 }
 
 // The numbers of the whole pairs so far.
-#[derive(Drop)]
+#[derive(Clone, Copy)]
 pub struct Tally {
     pub calls: u64,
     pub same: u64,

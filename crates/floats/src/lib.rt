@@ -1,5 +1,7 @@
 // Whole numbers as f64, for the drive card (rule Part of a curve; 02, ticket 11): which path number an f64 is, travels and path
 // numbers turned into f64, and one blossom step, which is exact on them.
+#![tactic(auto)]
+
 ghost use Rattle.std.specs.Prelude.{◌≡◌, pos};
 ghost use Rattle.std.specs.Float.{binary64};
 ghost use Rattle.std.specs.Float.Ieee.{sub};

@@ -1,5 +1,7 @@
 // The nine refusals (rule Refusals; 01, and 02, ticket 3), tested in the stated order: `judge` answers a number, a place and a
 // count for every request and writes nothing.
+#![tactic(auto)]
+
 mod places;
 
 ghost use Rattle.std.specs.Prelude.{◌≡◌, false, ◌+◌, ◌≤◌};

@@ -1,5 +1,7 @@
 // A request record opened, and judged by the door's own table: the record is in specs/Record.antt, the table in
 // specs/Judgement.antt. Bytes past the end of a record count as 0, so that nothing is asked of a caller. Nothing is composed here.
+#![tactic(auto)]
+
 ghost use Rattle.std.specs.Prelude.{◌≡◌, false, ◌≤◌};
 ghost use Rattle.request.specs.Refusal.{not_degree};
 ghost use Rattle.judgement.specs.Record.{head_in, is_aged, aged_start, start_in, age_in, body_end};
@@ -11,7 +13,7 @@ use request::{Answer, Head};
 
 // A record's head, the age of its tilt sample, the byte at which its numbers begin, and the refusal by the door's own table:
 // number 0 where none of its tests holds.
-#[derive(Drop)]
+#[derive(Clone, Copy)]
 pub struct Opened {
     pub head: Head,
     pub age: Age,

@@ -1,4 +1,6 @@
 // The f64 card for C and Rust: a part as three numbers, its record in lent arrays.
+#![tactic(auto)]
+
 ghost use Rattle.std.specs.Prelude.{◌≡◌, ◌++◌, ◌<◌, ◌≤◌, length, set, drop};
 ghost use Rattle.lean_card.specs.Driven.{part_of, driven_by, Driven};
 

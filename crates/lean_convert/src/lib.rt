@@ -1,5 +1,7 @@
 // The converter of old traces for C and Rust, fed as it comes: it crosses in two lent arrays of a size of their own, since a struct
 // does not cross alike on every machine. Zeros in both are the converter that has taken nothing.
+#![tactic(auto)]
+
 ghost use Rattle.std.specs.Prelude.{◌≡◌, cond};
 ghost use Rattle.feed.specs.Feed.{held_room};
 ghost use Rattle.renewal.specs.converter.Put.{feed_of, last_out};

@@ -1,5 +1,7 @@
 // Patches for C and Rust: the entry of `patch` with its answer in a lent array of three words. Each slice crosses as a pointer and a
 // length in elements.
+#![tactic(auto)]
+
 ghost use Rattle.patch_net.specs.Patch.{patch_of};
 ghost use Rattle.lean_patch.specs.Crossing.{Crosses};
 

@@ -1,4 +1,6 @@
 // The replay of a whole trace for C and Rust, its five numbers in a lent array of words.
+#![tactic(auto)]
+
 ghost use Rattle.lean_replay.specs.Replayed.{Replayed};
 
 use crossing::put;

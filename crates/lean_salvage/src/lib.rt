@@ -1,4 +1,6 @@
 // What lies ahead in a window of a torn trace, for C and Rust, its numbers in a lent array of words.
+#![tactic(auto)]
+
 ghost use Rattle.std.specs.Prelude.{◌≡◌};
 ghost use Rattle.lean_salvage.specs.Salvaged.{with_stretch, Salvaged};
 

@@ -1,5 +1,7 @@
 // The daily sheet for C and Rust, fed as it comes: the state crosses in four lent arrays of a size of their own, since a struct does
 // not cross alike on every machine. Zeros in all of them are the state that has taken nothing.
+#![tactic(auto)]
+
 ghost use Rattle.std.specs.Prelude.{◌≡◌, cond};
 ghost use Rattle.lean_sheet.specs.Fed.{span_in, state_in, counts_of, span_of, Fed};
 

@@ -1,4 +1,6 @@
 // The reading of a curve at a tick for C and Rust, its number, place and reading in a lent array of signed words.
+#![tactic(auto)]
+
 ghost use Rattle.std.specs.Prelude.{◌≡◌, ◌<◌, length, set};
 ghost use Rattle.lean_tick.specs.Ticked.{Ticked};
 

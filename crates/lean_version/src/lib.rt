@@ -1,4 +1,6 @@
 // The version of the C functions, so that firmware can compare at its start what it was compiled for with what it runs on.
+#![tactic(auto)]
+
 ghost use Rattle.std.specs.Prelude.{◌≡◌};
 ghost use Rattle.lean_version.specs.Version.{version};
 

@@ -1,5 +1,7 @@
 // Sums of weighed values beyond 64 bits. A place of a lent array is two signed limbs, worth high·2^32 + low. One budget of
 // weight holds for all places.
+#![tactic(auto)]
+
 ghost use Rattle.std.specs.Prelude.{◌≡◌, ◌+◌, ◌*◌, ◌^◌, ◌≤◌, ◌<◌, pos, neg_ℤ, nat_abs, ◌+ℤ◌, ◌*ℤ◌, length, get_or, set};
 ghost use Rattle.std.specs.Int.Signed.{shr_z};
 ghost use Rattle.limbs.specs.Limbs.{Room, Gained, only};

@@ -1,1 +1,2 @@
 // Lists by their places: definitions and their laws, no code.
+#![tactic(auto)]

@@ -1,4 +1,6 @@
 // The refusals' names, written into a lent buffer; and an answer line with its refusal by name.
+#![tactic(auto)]
+
 ghost use Rattle.std.specs.Prelude.{◌≡◌, ◌+◌, ◌-◌, ◌≤◌, ◌<◌, length, get_or, drop};
 ghost use Rattle.spell.specs.Decimal.{Written};
 ghost use Rattle.names.specs.Names.{name_of, first_width, first_number, by_name};

@@ -2,9 +2,10 @@
 // as definitions and theorems. Who sums a composed net is crate `sums`; here there is no code, only the type of an argument's shares.
 // Terms and runs (`runs` of its definitions and laws): the sum over all choices of terms is the sum over non-decreasing runs of them, each weighed by
 // its arrangements; how much weight a run has still to give, and which nets it forms. Laws over any list of terms.
+#![tactic(auto)]
 
 // What an argument gives of each of three neighbours, in 1/1024: x of p(i+1,j), y of p(i,j+1), z of p(i,j).
-#[derive(Drop)]
+#[derive(Clone, Copy)]
 pub struct Shares {
     pub x: u64,
     pub y: u64,

@@ -1,5 +1,7 @@
 // A night as it comes from an input: its five numbers and their lines. What a file holds is not
 // known here; it is promised that what was written is that of the bytes that were read.
+#![tactic(auto)]
+
 mod far;
 pub mod listing;
 
@@ -11,10 +13,10 @@ ghost use Rattle.night.specs.Reading.{Replays};
 use door::tally::Reader;
 use fives::Five;
 use progress::Progress;
-use streams::Stream;
+use streams::{Source, Stream};
 
 // The input and the reader behind a part, and how many bytes came.
-#[derive(Drop)]
+#[derive(Clone, Copy)]
 struct Night {
     input: Stream,
     reader: Reader,
@@ -22,7 +24,7 @@ struct Night {
 }
 
 // The input behind a night, the output behind its lines, and its numbers.
-#[derive(Drop)]
+#[derive(Clone, Copy)]
 pub struct Replayed {
     pub input: Stream,
     pub out: Stream,
@@ -30,10 +32,10 @@ pub struct Replayed {
 }
 
 // One part more.
-fn read_part(input: Stream, reader: Reader, part: &mut [u8]) -> Night
+fn read_part(input: Stream, source: &Source, reader: Reader, part: &mut [u8]) -> Night
     ensures { Took after_part input reader result.input result.reader }
 {
-    let got = streams::read(input, part);
+    let got = streams::read(input, source, part);
     let n = got.count;
     let behind = got.stream;
     Night {
@@ -63,7 +65,13 @@ fn tell(progress: Progress, input: Stream, reader: Reader, ended: bool) -> Progr
 }
 
 // Nothing says that a trace ends, and a proved loop has to: it counts its turns down from a number that no run uses up.
-fn read_all(input: Stream, reader: Reader, part: &mut [u8], progress: Progress) -> Night
+fn read_all(
+    input: Stream,
+    source: &Source,
+    reader: Reader,
+    part: &mut [u8],
+    progress: Progress,
+) -> Night
     ensures { Took after_part input reader result.input result.reader }
 {
     let mut night = Night {
@@ -74,7 +82,7 @@ fn read_all(input: Stream, reader: Reader, part: &mut [u8], progress: Progress) 
     let mut told = progress;
     let mut turns = u64::MAX;
     while turns > 0 {
-        night = read_part(night.input, night.reader, part);
+        night = read_part(night.input, source, night.reader, part);
         if night.count == 0 {
             tell(told, night.input, night.reader, true);
             return night;
@@ -87,13 +95,13 @@ fn read_all(input: Stream, reader: Reader, part: &mut [u8], progress: Progress) 
 
 // Reads a night to its end and writes its five lines; where a read failed there are none, since lines of a part could be taken
 // for those of the whole.
-pub fn replay_all(input: Stream, progress: Progress, out: Stream) -> Replayed
+pub fn replay_all(input: Stream, source: &Source, progress: Progress, out: Stream) -> Replayed
     ensures { Replays input out result }
 {
     let mut part = io::large_buffer();
     let mut lines = [0u8; 134];
     let blank = door::tally::new();
-    let night = read_all(input, blank, &mut part, progress);
+    let night = read_all(input, source, blank, &mut part, progress);
     let behind = night.input;
     let five = door::tally::finish(night.reader);
     if behind.failed {

@@ -9,10 +9,10 @@ ghost use Rattle.night.specs.listing.Contract.{Sends, Adds, Takes, Reads, Lists}
 
 use page::front;
 use shown::{put_ending, put_entry, put_page};
-use streams::Stream;
+use streams::{Source, Stream};
 
 // How many pairs there were, where the next one begins, how many of those asked for differ, and the output.
-#[derive(Drop)]
+#[derive(Clone, Copy)]
 struct State {
     calls: u64,
     offset: u64,
@@ -21,7 +21,7 @@ struct State {
 }
 
 // The bytes of the pair that is not whole yet, how many there are from its start on, and where the telling stands.
-#[derive(Drop)]
+#[derive(Clone, Copy)]
 struct Reader {
     held: [u8; 256],
     rest: u64,
@@ -29,7 +29,7 @@ struct Reader {
 }
 
 // The input and the reader behind a part, and how many bytes came.
-#[derive(Drop)]
+#[derive(Clone, Copy)]
 struct Night {
     input: Stream,
     reader: Reader,
@@ -37,7 +37,7 @@ struct Night {
 }
 
 // The streams behind a night, and its numbers: whole pairs, those asked for whose reply differs, and the bytes that are left.
-#[derive(Drop)]
+#[derive(Clone, Copy)]
 pub struct Listed {
     pub input: Stream,
     pub out: Stream,
@@ -179,10 +179,10 @@ fn take(wanted: u64, reader: Reader, part: &[u8]) -> Reader
 }
 
 // One part more.
-fn read_part(wanted: u64, input: Stream, reader: Reader, part: &mut [u8]) -> Night
+fn read_part(wanted: u64, input: Stream, source: &Source, reader: Reader, part: &mut [u8]) -> Night
     ensures { Reads wanted input reader result.input result.reader }
 {
-    let got = streams::read(input, part);
+    let got = streams::read(input, source, part);
     let n = got.count;
     let behind = got.stream;
     Night {
@@ -210,7 +210,7 @@ fn is_over(wanted: u64, night: Night) -> bool {
 }
 
 // Nothing says that a trace ends, and a proved loop has to: it counts its turns down from a number that no run uses up.
-fn read_all(wanted: u64, input: Stream, reader: Reader, part: &mut [u8]) -> Night
+fn read_all(wanted: u64, input: Stream, source: &Source, reader: Reader, part: &mut [u8]) -> Night
     ensures { Reads wanted input reader result.input result.reader }
 {
     let mut night = Night {
@@ -220,7 +220,7 @@ fn read_all(wanted: u64, input: Stream, reader: Reader, part: &mut [u8]) -> Nigh
     };
     let mut turns = u64::MAX;
     while turns > 0 {
-        night = read_part(wanted, night.input, night.reader, part);
+        night = read_part(wanted, night.input, source, night.reader, part);
         if is_over(wanted, night) {
             return night;
         }
@@ -249,7 +249,7 @@ fn close(wanted: u64, failed: bool, reader: Reader) -> Stream
 }
 
 // Tells pair `wanted` of a night, or all that differ where that is 0.
-pub fn list(input: Stream, wanted: u64, out: Stream) -> Listed
+pub fn list(input: Stream, source: &Source, wanted: u64, out: Stream) -> Listed
     ensures { Lists wanted input out result }
 {
     let mut part = io::large_buffer();
@@ -263,7 +263,7 @@ pub fn list(input: Stream, wanted: u64, out: Stream) -> Listed
             out,
         },
     };
-    let night = read_all(wanted, input, begun, &mut part);
+    let night = read_all(wanted, input, source, begun, &mut part);
     let behind = night.input;
     let reader = night.reader;
     let state = reader.state;

@@ -1,5 +1,7 @@
 // Text put on a page, a lent buffer, one piece after the other: bytes, and a word with a number. Each function puts its text from a
 // place on, as far as there is room, and answers where it ends.
+#![tactic(auto)]
+
 mod form;
 
 ghost use Rattle.std.specs.Prelude.{◌≡◌, min, take};

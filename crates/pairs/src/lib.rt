@@ -1,5 +1,7 @@
 // What stands at the front of some bytes: a record, what is behind it, a whole pair. No function asks anything of its caller. Of the
 // door nothing is known here.
+#![tactic(auto)]
+
 ghost use Rattle.std.specs.Prelude.{◌≡◌, ◌<◌};
 ghost use Rattle.wire.specs.Start.{length_field, starts_record, record_in, behind as behind_in};
 ghost use Rattle.pairs.specs.Cut.{pair_size};

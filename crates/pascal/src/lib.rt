@@ -1,5 +1,7 @@
 // The binomial coefficients, read from Pascal's triangle: one constant table of its rows 0 to 24, with the proof that each
 // number of it is the binomial coefficient of its row and place. What is answered is in specs/. Assumes nothing.
+#![tactic(auto)]
+
 ghost use Rattle.std.specs.Prelude.{◌≡◌, ◌≤◌, ◌<◌, get_or};
 ghost use Rattle.pascal.specs.Entry.{last_row, early_row, early_cells, place_of, entry};
 ghost use Rattle.pascal.specs.Table.{table};

@@ -1,5 +1,7 @@
 // Rule Patches on patches (02, ticket 8): the public entry. A patch is judged whole before anything is written; an accepted one has
 // its exact numerators, one signed number each, and its rounded points written to the two lent arrays in 01's triangular order.
+#![tactic(auto)]
+
 mod patch_judge;
 mod patch_sums;
 

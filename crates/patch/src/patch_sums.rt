@@ -9,7 +9,7 @@ ghost use Rattle.patch_walk.specs.PatchTerms.{key_of};
 ghost use Rattle.patch.specs.patch_sums.Contract.{most_longest, limb_count, index_of, whole, Filled, Summed};
 
 // An index (i, j, k) of a triangular net.
-#[derive(Drop)]
+#[derive(Clone, Copy)]
 pub struct Place {
     pub i: usize,
     pub j: usize,

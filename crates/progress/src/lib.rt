@@ -1,50 +1,39 @@
 // When it is time to tell how far a reading is: every second on a terminal, where one line is written again and again, and
 // every five seconds elsewhere.
-use streams::{Stream, descriptor};
-use whole::Num;
+#![tactic(auto)]
 
-// Whether anything is to be told, whether standard error is a terminal, how many bytes there are (0: not known), and when it
-// was told last.
-#[derive(Drop)]
+use std::io::IsTerminal;
+use std::rt::{Clock, HostRuntime};
+use streams::Source;
+use streams::source::{runtime, size_of};
+
+// Whether anything is to be told, whether standard error is a terminal, how many bytes there are (0: not known), when it was told
+// last, and the handle by which the clock is read.
+#[derive(Clone, Copy)]
 pub struct Progress {
     wanted: bool,
     pub terminal: bool,
     pub size: u64,
     last: u64,
+    rt: HostRuntime,
 }
 
 // Seconds since a day long ago.
-fn seconds() -> u64 {
-    let mut now: i64 = 0;
-    let got = libc::time(&mut now);
-    if got < 0 {
-        return 0;
+fn seconds(rt: HostRuntime) -> u64 {
+    match rt.since_1970() {
+        Ok(time) => time.as_secs(),
+        Err(_) => 0,
     }
-    whole::size(Num(got))
 }
 
-// How many bytes an input has that begins here, 0 where that is not known.
-fn size_of(stream: Stream) -> u64 {
-    let fd = descriptor(stream);
-    if libc::lseek(fd, 0, libc::SEEK_CUR) != 0 {
-        return 0;
-    }
-    let end = libc::lseek(fd, 0, libc::SEEK_END);
-    if libc::lseek(fd, 0, libc::SEEK_SET) != 0 {
-        return 0;
-    }
-    if end < 0 {
-        return 0;
-    }
-    whole::size(Num(end))
-}
-
-pub fn begin(wanted: bool, input: Stream) -> Progress {
+pub fn begin(wanted: bool, input: &Source) -> Progress {
+    let rt = runtime(input);
     Progress {
         wanted,
-        terminal: libc::isatty(libc::STDERR_FILENO) == 1,
+        terminal: rt.stderr().is_terminal(),
         size: size_of(input),
-        last: seconds(),
+        last: seconds(rt),
+        rt,
     }
 }
 
@@ -66,12 +55,12 @@ pub fn is_due(progress: Progress, ended: bool) -> bool {
     if ended {
         return true;
     }
-    is_late(progress, seconds())
+    is_late(progress, seconds(progress.rt))
 }
 
 // It was told now.
 pub fn told(progress: Progress) -> Progress {
     let mut next = progress;
-    next.last = seconds();
+    next.last = seconds(progress.rt);
     next
 }

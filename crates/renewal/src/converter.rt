@@ -14,7 +14,7 @@ use feed::Handed;
 
 // The bytes of the pair that is not whole yet, with zeros behind them; how many bytes there are from its start on; and how many
 // requests of the pairs before it are changed.
-#[derive(Drop)]
+#[derive(Clone, Copy)]
 pub struct Converter {
     pub held: [u8; 256],
     pub rest: u64,
@@ -22,7 +22,7 @@ pub struct Converter {
 }
 
 // The converter behind a part, how many bytes of the part it took, and how many it put out.
-#[derive(Drop)]
+#[derive(Clone, Copy)]
 pub struct Taken {
     pub converter: Converter,
     pub bytes: usize,

@@ -1,5 +1,7 @@
 // An old night as it comes from an input: looked through, and converted into an output. What a file holds is not known here; it is
 // promised that what was written, and told, is that of the bytes that were read.
+#![tactic(auto)]
+
 pub mod converter;
 
 ghost use Rattle.std.specs.Prelude.{◌≤◌, length};
@@ -11,10 +13,10 @@ ghost use Rattle.renewal.specs.Carried.{Carries, Looks, Renews};
 
 use crate::converter::Converter;
 use progress::Progress;
-use streams::Stream;
+use streams::{Source, Stream};
 
 // The input and the output behind a part, the converter, and how many bytes came.
-#[derive(Drop)]
+#[derive(Clone, Copy)]
 struct Night {
     input: Stream,
     out: Stream,
@@ -24,7 +26,7 @@ struct Night {
 
 // The input behind a night, the output, to which nothing went, whether the night cannot be converted, and how many requests are
 // changed.
-#[derive(Drop)]
+#[derive(Clone, Copy)]
 pub struct Looked {
     pub input: Stream,
     pub out: Stream,
@@ -33,7 +35,7 @@ pub struct Looked {
 }
 
 // The same of a converted night, which went to the output.
-#[derive(Drop)]
+#[derive(Clone, Copy)]
 pub struct Renewed {
     pub input: Stream,
     pub out: Stream,
@@ -44,6 +46,7 @@ pub struct Renewed {
 // One part more; what it puts out is written where that is wanted.
 fn carry_part(
     input: Stream,
+    source: &Source,
     out: Stream,
     converter: Converter,
     wanted: bool,
@@ -53,7 +56,7 @@ fn carry_part(
     requires { (length part.old ≤ part_room) × (out_room ≤ length buffer.old) }
     ensures { Carries wanted input out converter result.input result.out result.converter }
 {
-    let got = streams::read(input, part);
+    let got = streams::read(input, source, part);
     let n = got.count;
     let behind = got.stream;
     let taken = crate::converter::take(converter, &part[..n], buffer);
@@ -89,6 +92,7 @@ fn tell(progress: Progress, read: u64) -> Progress {
 // Nothing says that a trace ends, and a proved loop has to: it counts its turns down from a number that no run uses up.
 fn carry_all(
     input: Stream,
+    source: &Source,
     out: Stream,
     converter: Converter,
     wanted: bool,
@@ -110,6 +114,7 @@ fn carry_all(
     while turns > 0 {
         night = carry_part(
             night.input,
+            source,
             night.out,
             night.converter,
             wanted,
@@ -126,13 +131,14 @@ fn carry_all(
 }
 
 // Looks through a night to its end; nothing is written to the output.
-pub fn look(input: Stream, out: Stream, progress: Progress) -> Looked
+pub fn look(input: Stream, source: &Source, out: Stream, progress: Progress) -> Looked
     ensures { Looks input out result }
 {
     let mut part = io::large_buffer();
     let mut buffer = [0u8; crate::converter::ROOM];
     let night = carry_all(
         input,
+        source,
         out,
         crate::converter::new(),
         false,
@@ -152,13 +158,14 @@ pub fn look(input: Stream, out: Stream, progress: Progress) -> Looked
 }
 
 // Converts a night into an output.
-pub fn renew(input: Stream, out: Stream, progress: Progress) -> Renewed
+pub fn renew(input: Stream, source: &Source, out: Stream, progress: Progress) -> Renewed
     ensures { Renews input out result }
 {
     let mut part = io::large_buffer();
     let mut buffer = [0u8; crate::converter::ROOM];
     let night = carry_all(
         input,
+        source,
         out,
         crate::converter::new(),
         true,

@@ -1,13 +1,16 @@
 // Replays a recorded night: reads the trace that its argument names, or standard input, asks the door afresh and writes the
 // five lines, the pairs that differ, or one pair in words. What goes wrong is said on standard error.
+#![tactic(auto)]
+
 mod help;
 mod morning;
 mod wish;
 
+use std::rt::HostRuntime;
 use wish::Wish;
 
 // Does what is wished, and answers the verdict.
-fn done(wish: Wish) -> u64 {
+fn done(rt: HostRuntime, wish: Wish) -> u64 {
     if wish.end == wish::HELP {
         return help::print();
     }
@@ -15,15 +18,15 @@ fn done(wish: Wish) -> u64 {
         return files::told::version(b"replay");
     }
     if wish.end != wish::ALL {
-        return wish::complain(wish.end, wish.at);
+        return wish::complain(rt, wish.end, wish.at);
     }
     if wish.next == wish::NUMBER {
         files::told::say(b"replay: --show asks for the number of a pair, from 1 on\n");
         return 2;
     }
-    morning::run(wish.file, wish.list, wish.show, wish.progress)
+    morning::run(rt, wish.file, wish.list, wish.show, wish.progress)
 }
 
-fn main() {
-    files::told::verdict(done(wish::read(os::arg_count())));
+fn main(rt: HostRuntime) {
+    files::told::verdict(done(rt, wish::read(rt, files::argument_count(rt))));
 }

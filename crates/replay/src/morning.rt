@@ -1,6 +1,7 @@
 // The night that is asked for, read and told.
 use files::told::{say, trouble, written};
-use streams::Stream;
+use std::rt::HostRuntime;
+use streams::{Source, Stream};
 
 fn no_numbers(name: &[u8]) -> u64 {
     trouble(b"replay", name);
@@ -20,9 +21,9 @@ fn found(differ: u64, rest: u64) -> u64 {
 }
 
 // The five lines.
-fn count(from: Stream, name: &[u8], progress: bool) -> u64 {
-    let far = progress::begin(progress, from);
-    let replayed = night::replay_all(from, far, streams::standard_output());
+fn count(from: Stream, source: &Source, name: &[u8], progress: bool) -> u64 {
+    let far = progress::begin(progress, source);
+    let replayed = night::replay_all(from, source, far, streams::standard_output());
     let read = replayed.input;
     let five = replayed.five;
     if read.failed {
@@ -32,8 +33,8 @@ fn count(from: Stream, name: &[u8], progress: bool) -> u64 {
 }
 
 // The pairs that differ, or one pair in words.
-fn tell(from: Stream, name: &[u8], wanted: u64) -> u64 {
-    let told = night::listing::list(from, wanted, streams::standard_output());
+fn tell(from: Stream, source: &Source, name: &[u8], wanted: u64) -> u64 {
+    let told = night::listing::list(from, source, wanted, streams::standard_output());
     let read = told.input;
     let out = told.out;
     if out.failed {
@@ -55,19 +56,19 @@ fn tell(from: Stream, name: &[u8], wanted: u64) -> u64 {
 }
 
 // The trace that argument `file` names, or standard input where that is 0.
-pub fn run(file: usize, list: bool, show: u64, progress: bool) -> u64 {
+pub fn run(rt: HostRuntime, file: usize, list: bool, show: u64, progress: bool) -> u64 {
     let mut name = io::buffer();
-    let input = files::open(file, &mut name);
+    let input = files::open(rt, file, &mut name);
     let n = input.size;
     let from = input.stream;
     if from.failed {
         return no_numbers(&name[..n]);
     }
     if list {
-        return tell(from, &name[..n], 0);
+        return tell(from, &input.source, &name[..n], 0);
     }
     if show != 0 {
-        return tell(from, &name[..n], show);
+        return tell(from, &input.source, &name[..n], show);
     }
-    count(from, &name[..n], progress)
+    count(from, &input.source, &name[..n], progress)
 }

@@ -1,9 +1,10 @@
 // What the arguments ask for.
 use args::{Kind, Number};
+use std::rt::HostRuntime;
 
 // `file` is the argument that names the trace, 0 for standard input; `show` is the number of a pair, 0 for none; `next` says what is
 // to come, and `end` why the reading of the arguments ended, at argument `at`.
-#[derive(Drop)]
+#[derive(Clone, Copy)]
 pub struct Wish {
     pub progress: bool,
     pub list: bool,
@@ -118,12 +119,11 @@ fn with_word(wish: Wish, i: usize, word: &[u8]) -> Wish {
 }
 
 // What argument i adds. One that is too long to be kept is a name, and opening it tells why it cannot be.
-fn with(wish: Wish, i: usize) -> Wish {
+fn with(rt: HostRuntime, wish: Wish, i: usize) -> Wish {
     let mut word = io::buffer();
-    let n = os::arg(i, &mut word);
-    if os::errno() != 0 {
+    let Some(n) = files::argument(rt, i, &mut word) else {
         return named(wish, i);
-    }
+    };
     let then = with_word(wish, i, &word[..n]);
     if then.list {
         if then.show != 0 {
@@ -134,7 +134,7 @@ fn with(wish: Wish, i: usize) -> Wish {
 }
 
 // The first argument that cannot be done, or asks for a text, ends the reading of them.
-pub fn read(count: usize) -> Wish {
+pub fn read(rt: HostRuntime, count: usize) -> Wish {
     let mut wish = Wish {
         progress: false,
         list: false,
@@ -146,7 +146,7 @@ pub fn read(count: usize) -> Wish {
     };
     let mut i = 1;
     while i < count {
-        wish = with(wish, i);
+        wish = with(rt, wish, i);
         if wish.end != ALL {
             return wish;
         }
@@ -155,24 +155,24 @@ pub fn read(count: usize) -> Wish {
     wish
 }
 
-fn cannot(what: &[u8], i: usize) -> u64 {
-    files::told::complain(b"replay", what, i);
+fn cannot(rt: HostRuntime, what: &[u8], i: usize) -> u64 {
+    files::told::complain(rt, b"replay", what, i);
     2
 }
 
 // Says why argument i cannot be done.
-pub fn complain(why: u64, i: usize) -> u64 {
+pub fn complain(rt: HostRuntime, why: u64, i: usize) -> u64 {
     if why == SECOND {
-        return cannot(b"one trace at a time:", i);
+        return cannot(rt, b"one trace at a time:", i);
     }
     if why == NO_NUMBER {
-        return cannot(b"--show asks for the number of a pair, from 1 on:", i);
+        return cannot(rt, b"--show asks for the number of a pair, from 1 on:", i);
     }
     if why == TOO_LARGE {
-        return cannot(b"too large a number:", i);
+        return cannot(rt, b"too large a number:", i);
     }
     if why == BOTH {
-        return cannot(b"--list and --show are two things:", i);
+        return cannot(rt, b"--list and --show are two things:", i);
     }
-    cannot(b"unknown option", i)
+    cannot(rt, b"unknown option", i)
 }

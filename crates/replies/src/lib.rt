@@ -1,5 +1,7 @@
 // A reply as bytes, at the front of a lent slice: the record is in specs/Reply.antt. Of how a request is judged nothing is known
 // here.
+#![tactic(auto)]
+
 ghost use Rattle.std.specs.Prelude.{◌≡◌, ◌++◌, ◌+◌, ◌*◌, ◌/◌, ◌%◌, ◌≤◌, ◌<◌, length, set};
 ghost use Rattle.wire.specs.Words.{word_end, Short, unsigned, number_bytes};
 ghost use Rattle.wire.specs.Start.{start, record_start};

@@ -1,5 +1,7 @@
 // 01's request (rule Forms and degrees) and what is answered to it (rule Refusals), and what follows from the head alone: KIND,
 // DEGREE and the counts. The refusals, as one table, are definitions here; `judge`, a crate above, goes down the table.
+#![tactic(auto)]
+
 pub mod units;
 
 ghost use Rattle.std.specs.Prelude.{◌≡◌, false};
@@ -17,7 +19,7 @@ pub const MOST_POINTS: usize = 25;
 pub const MOST_PATH_NUMBERS: usize = 21;
 
 // What a request is besides its two arrays: the form, a first and a second degree, and the path's degree N.
-#[derive(Drop)]
+#[derive(Clone, Copy)]
 pub struct Head {
     pub form: u32,
     pub first: u32,
@@ -26,7 +28,7 @@ pub struct Head {
 }
 
 // How many places each output array has: the high words and the low words of the numerators, and the rounded points.
-#[derive(Drop)]
+#[derive(Clone, Copy)]
 pub struct Rooms {
     pub high: usize,
     pub low: usize,
@@ -35,7 +37,7 @@ pub struct Rooms {
 
 // number: 0 for accepted, else the refusal's. place: the least bad index (VALUE, PARAMETER) or the least bad point's
 // number (BALANCE), else 0. count: how many places of each output array are written.
-#[derive(Drop)]
+#[derive(Clone, Copy)]
 pub struct Answer {
     pub number: u32,
     pub place: usize,

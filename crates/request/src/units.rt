@@ -6,15 +6,15 @@ ghost use Rattle.request.specs.units.Bounds.{beyond_travel, beyond_path, most, s
 use whole::Num;
 
 // A place along the path's own numbers: 1024 is one.
-#[derive(Drop)]
+#[derive(Clone, Copy)]
 pub struct PathNumber(pub i32);
 
 // How far the car is pushed sideways: 4096 is 40.96 mm.
-#[derive(Drop)]
+#[derive(Clone, Copy)]
 pub struct Travel(pub i32);
 
 // How old the tilt sample of a ride is, in milliseconds: 0 to 65,535.
-#[derive(Drop)]
+#[derive(Clone, Copy)]
 pub struct Age(pub u16);
 
 // Control value k of a surface, and no travel past its end.

@@ -1,11 +1,15 @@
 // Salvages a torn trace: reads IN, writes the pairs that the door answers so today to OUT, which stands there whole or not at all, and
 // tells on standard output which bytes were skipped. What goes wrong is said on standard error, and then OUT is as it was.
-mod torn;
+#![tactic(auto)]
+
+mod torn_trace;
 
 use files::program;
+use std::rt::HostRuntime;
 
-fn main() {
+fn main(rt: HostRuntime) {
     let named = program::names(
+        rt,
         b"salvage",
         b"usage: salvage [--progress] IN OUT\n\
         Reads a torn trace, IN (- for standard input), from its first byte: where a request of kind 1\n\
@@ -20,6 +24,6 @@ fn main() {
         2,
     );
     if named.go {
-        files::told::verdict(torn::run(named.first, named.second, named.progress));
+        files::told::verdict(torn_trace::run(rt, named.first, named.second, named.progress));
     }
 }

@@ -1,6 +1,8 @@
 // Salvaging a torn trace from an input to two outputs, the kept pairs and the lines: a window slides over the input, 64 KiB at a time,
 // and what lies ahead in it (room saver) is written out as it comes. What a file holds is not known here; it is promised that
 // what was written is the salvage of what was read.
+#![tactic(auto)]
+
 pub mod saver;
 
 ghost use Rattle.std.specs.Prelude.{◌≡◌, ◌||◌, [], ◌+◌, ◌-◌, ◌≤◌, length, take, drop};
@@ -10,10 +12,10 @@ ghost use Rattle.salvaging.specs.Salvaging.{Puts, Settles, Rests, Fills, Salvage
 
 use crate::saver::Place;
 use progress::Progress;
-use streams::Stream;
+use streams::{Source, Stream};
 
 // Where the salvage stands, and its two outputs.
-#[derive(Drop)]
+#[derive(Clone, Copy)]
 struct State {
     place: Place,
     out: Stream,
@@ -21,7 +23,7 @@ struct State {
 }
 
 // The state behind so many bytes of a window.
-#[derive(Drop)]
+#[derive(Clone, Copy)]
 struct Settled {
     state: State,
     taken: usize,
@@ -94,7 +96,7 @@ fn slide(buffer: &mut [u8], at: usize, end: usize)
 }
 
 // The input and the state behind a part, how many bytes came, and how many stand in the buffer that are not decided.
-#[derive(Drop)]
+#[derive(Clone, Copy)]
 struct Turn {
     input: Stream,
     state: State,
@@ -103,11 +105,18 @@ struct Turn {
 }
 
 // One part more, behind the bytes of a buffer that are not decided.
-fn read_more(input: Stream, buffer: &mut [u8], count: usize, line: &mut [u8], state: State) -> Turn
+fn read_more(
+    input: Stream,
+    source: &Source,
+    buffer: &mut [u8],
+    count: usize,
+    line: &mut [u8],
+    state: State,
+) -> Turn
     requires { (count ≤ length buffer.old) × (line_room ≤ length line.old) }
     ensures { Fills input (take count buffer.old) state result buffer.new }
 {
-    let got = streams::read(input, &mut buffer[count..]);
+    let got = streams::read(input, source, &mut buffer[count..]);
     let end = count + got.count;
     let settled = settle(&buffer[..end], false, line, state);
     let at = settled.taken;
@@ -151,6 +160,7 @@ fn tell(progress: Progress, input: Stream) -> Progress {
 // from a number that no run uses up.
 fn read_all(
     input: Stream,
+    source: &Source,
     buffer: &mut [u8],
     line: &mut [u8],
     state: State,
@@ -168,7 +178,7 @@ fn read_all(
     let mut due = progress;
     let mut turns = u64::MAX;
     while turns > 0 {
-        turn = read_more(turn.input, buffer, turn.count, line, turn.state);
+        turn = read_more(turn.input, source, buffer, turn.count, line, turn.state);
         if is_over(turn) {
             return turn;
         }
@@ -179,7 +189,7 @@ fn read_all(
 }
 
 // The input and the outputs behind a salvage, and whether the input was read to its end and all was written.
-#[derive(Drop)]
+#[derive(Clone, Copy)]
 pub struct Salvaged {
     pub input: Stream,
     pub out: Stream,
@@ -226,7 +236,13 @@ fn finish(state: State, line: &mut [u8]) -> State
 }
 
 // Salvages an input that has been opened: the kept pairs go to `out`, and the lines to `lines`.
-pub fn salvage_all(input: Stream, progress: Progress, out: Stream, lines: Stream) -> Salvaged
+pub fn salvage_all(
+    input: Stream,
+    source: &Source,
+    progress: Progress,
+    out: Stream,
+    lines: Stream,
+) -> Salvaged
     ensures { Salvages input out lines result }
 {
     let mut buffer = io::large_buffer();
@@ -236,7 +252,7 @@ pub fn salvage_all(input: Stream, progress: Progress, out: Stream, lines: Stream
         out,
         lines,
     };
-    let turn = read_all(input, &mut buffer, &mut line, begun, progress);
+    let turn = read_all(input, source, &mut buffer, &mut line, begun, progress);
     let behind = turn.input;
     let state = turn.state;
     if is_broken(behind, state) {

@@ -11,7 +11,7 @@ ghost use Rattle.torn.specs.Window.{cut_off, waits as waits_in, passes as passes
 ghost use Rattle.salvaging.specs.saver.Ahead.{line_room, size_kept, Closes, Leaves, stretch_of};
 
 // Where a salvage stands: the offset in the torn trace from which on bytes were skipped, and how many of them.
-#[derive(Drop)]
+#[derive(Clone, Copy)]
 pub struct Place {
     pub from: u64,
     pub lost: u64,
@@ -19,7 +19,7 @@ pub struct Place {
 
 // What lies ahead: so many bytes are skipped, and so many behind them are kept; how many bytes the line of the run is that is over
 // then; and the place behind all of them.
-#[derive(Drop)]
+#[derive(Clone, Copy)]
 pub struct Stretch {
     pub skipped: usize,
     pub kept: usize,

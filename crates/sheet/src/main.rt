@@ -1,7 +1,10 @@
 // The daily sheet: reads the trace that its argument names, or standard input, and writes the fourteen lines. What goes wrong is said on
 // standard error, and then no line is written.
+#![tactic(auto)]
+
 use files::program;
-use streams::Stream;
+use std::rt::HostRuntime;
+use streams::{Source, Stream};
 
 fn no_sheet(name: &[u8]) -> u64 {
     files::told::trouble(b"sheet", name);
@@ -10,8 +13,8 @@ fn no_sheet(name: &[u8]) -> u64 {
 }
 
 // Writes the sheet of what comes from an input.
-fn sheet_from(from: Stream, name: &[u8], progress: bool) -> u64 {
-    let told = day::sheet_all(from, progress, streams::standard_output());
+fn sheet_from(from: Stream, source: &Source, name: &[u8], progress: bool) -> u64 {
+    let told = day::sheet_all(from, source, progress, streams::standard_output());
     let read = told.input;
     if read.failed {
         return no_sheet(name);
@@ -20,21 +23,22 @@ fn sheet_from(from: Stream, name: &[u8], progress: bool) -> u64 {
 }
 
 // Writes the sheet of the trace that argument `file` names, or of standard input where that is 0.
-fn run(file: usize, progress: bool) -> u64 {
+fn run(rt: HostRuntime, file: usize, progress: bool) -> u64 {
     let mut name = io::buffer();
-    let input = files::open(file, &mut name);
+    let input = files::open(rt, file, &mut name);
     let n = input.size;
     let from = input.stream;
     if from.failed {
         return no_sheet(&name[..n]);
     }
-    let status = sheet_from(from, &name[..n], progress);
-    files::close(from);
+    let status = sheet_from(from, &input.source, &name[..n], progress);
+    files::close(input.source);
     status
 }
 
-fn main() {
+fn main(rt: HostRuntime) {
     let named = program::names(
+        rt,
         b"sheet",
         b"usage: sheet [--progress] [FILE]\n\
         Reads a recorded trace, FILE or standard input, and writes the sheet of its replies:\n\
@@ -53,6 +57,6 @@ fn main() {
         1,
     );
     if named.go {
-        files::told::verdict(run(named.first, named.progress));
+        files::told::verdict(run(rt, named.first, named.progress));
     }
 }

@@ -7,7 +7,7 @@ pub use ending::put_ending;
 pub use entry::{first_difference, put_entry, put_title};
 
 // Which of a line's forms, and the numbers in it.
-#[derive(Drop)]
+#[derive(Clone, Copy)]
 struct Line {
     form: u8,
     n: u64,

@@ -1,5 +1,7 @@
 // A pair in words: where it is, the request, the recorded reply beside today's, and their bytes. The page is bytes by definition; no
 // public function asks anything of its caller.
+#![tactic(auto)]
+
 mod asked;
 mod entries;
 mod marked;

@@ -28,7 +28,7 @@ fn points(reply: &[u8]) -> usize
 }
 
 // Which form a reply's answer has, and the refusal that is named behind it, or 0.
-#[derive(Drop)]
+#[derive(Clone, Copy)]
 struct Answer {
     form: u8,
     n: u64,

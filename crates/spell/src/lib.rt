@@ -1,5 +1,7 @@
 // Numbers and lines as text, written into a lent buffer: bytes, whole numbers, a named number. Each writes from a place on
 // and answers where it ends, so that lines are written one part after the other.
+#![tactic(auto)]
+
 mod decimal;
 mod line;
 

@@ -1,9 +1,6 @@
 -- What a read and a write show of the stream behind them. Assumes nothing.
-use mathlib.Core.Path.{◌≡◌, sym, ◌∙◌}
-use mathlib.Core.Bool.{true, false, false≢true}
-use mathlib.Core.List.{List}
-use Prim.Native.Nat.{ℕ, ◌+◌}
-use lib.ListN.{length, take}
+
+use Rattle.std.proofs.Common.{◌≡◌, ◌+◌, ℕ, List, length, take, true, false, sym, ◌∙◌, true≢false}
 use Rattle.io.specs.Counts.{IsPrefixLen}
 use Rattle.capped.specs.Capped.{capped}
 use Rattle.streams.specs.declared.Stream.{Stream}
@@ -16,7 +13,7 @@ came from part n s' c e = counted from (take n part) s' (e ∙ rw (← c.1))
 
 -- nothing was written to a stream that had failed; and bytes were written
 pub stays : (to : Stream) (bytes : List ℕ) → to.failed ≡ true → Wrote to bytes to
-stays to bytes t = record { went = λ e. absurd (false≢true (sym e ∙ t)); sound = λ e. e }
+stays to bytes t = record { went = λ e. absurd (true≢false (sym t ∙ e)); sound = λ e. e }
 
 pub written : (to : Stream) (bytes : List ℕ) (s' : Stream) → to.failed ≡ false → s'.count ≡ capped (to.count + length bytes)
     → Wrote to bytes s'

@@ -1,14 +1,27 @@
 // Bytes that are read and written. What a file holds cannot be promised; what is promised is which bytes went through which stream, in
 // which order. No function asks anything of its caller.
+#![tactic(auto)]
+
+pub mod source;
+
 ghost use Rattle.std.specs.Prelude.{◌≡◌, ◌+◌, pos, take};
 ghost use Rattle.std.specs.Int.Signed.{lt_z};
+ghost use Rattle.std.specs.Io.{ReadsAtMost};
 ghost use Rattle.io.specs.Counts.{IsPrefixLen};
 ghost use Rattle.capped.specs.Capped.{capped};
 ghost use Rattle.streams.specs.Stream.{opened, Through, Wrote};
 
+pub use source::Source;
+use std::io::Result;
+
+// The descriptors of the standard output and of standard error, as every process has them.
+const STDOUT_FILENO: i32 = 1;
+
+const STDERR_FILENO: i32 = 2;
+
 // An open input or output: how many bytes went through it, and whether the last call on it failed; nothing is written to one that
 // failed. The descriptor is below 0 where there is none.
-#[derive(Drop)]
+#[derive(Clone, Copy)]
 pub struct Stream {
     fd: i32,
     pub count: u64,
@@ -16,7 +29,7 @@ pub struct Stream {
 }
 
 // How many bytes came, 0 at the end or where the read failed, and the stream behind them.
-#[derive(Drop)]
+#[derive(Clone, Copy)]
 pub struct Got {
     pub count: usize,
     pub stream: Stream,
@@ -50,13 +63,13 @@ pub fn descriptor(stream: Stream) -> i32
 pub fn standard_output() -> Stream
     ensures { result ≡ opened (pos 1) }
 {
-    on(libc::STDOUT_FILENO)
+    on(STDOUT_FILENO)
 }
 
 pub fn standard_error() -> Stream
     ensures { result ≡ opened (pos 2) }
 {
-    on(libc::STDERR_FILENO)
+    on(STDERR_FILENO)
 }
 
 fn wide(n: usize) -> u64
@@ -76,32 +89,26 @@ fn behind(stream: Stream, bytes: usize, failed: bool) -> Stream
     }
 }
 
-// One read, asked again where a signal broke it off; below 0 where it failed. A proved loop has to end: it counts its turns down
-// from a number that no run uses up.
-fn read_once(fd: i32, part: &mut [u8]) -> isize {
-    let mut turns = u64::MAX;
-    while turns > 0 {
-        let got = libc::read(fd, part);
-        if got >= 0 {
-            return got;
-        }
-        if os::errno() != libc::EINTR {
-            return got;
-        }
-        turns -= 1;
+// How many bytes a read gave: none where it failed.
+fn given(got: &Result<usize>, part: &[u8]) -> usize
+    requires { ReadsAtMost got.now part.now }
+    ensures { IsPrefixLen result part.now }
+{
+    match got {
+        Ok(count) => *count,
+        Err(_) => 0,
     }
-    -1
 }
 
 // The next part of an input, in the lent buffer.
-pub fn read(from: Stream, part: &mut [u8]) -> Got
+pub fn read(from: Stream, source: &Source, part: &mut [u8]) -> Got
     ensures { IsPrefixLen result.count part.new × Through from (take result.count part.new) result.stream }
 {
-    let got = read_once(from.fd, part);
-    let count = io::count(got, part);
+    let got = source::read_part(source, part);
+    let count = given(&got, part);
     Got {
         count,
-        stream: behind(from, count, got < 0),
+        stream: behind(from, count, got.is_err()),
     }
 }
 

@@ -1,5 +1,7 @@
 // A composed net, summed: a ride's terms are put into a table once, its surface is loaded, and room `gather` sums over the
 // non-decreasing runs of the terms, into places of two limbs.
+#![tactic(auto)]
+
 mod gather;
 mod steps;
 

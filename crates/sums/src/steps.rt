@@ -8,13 +8,13 @@ use whole::Num;
 
 // The numbers of a net where few arguments are left, in the layout's order: of a rectangle where one is left and where two are,
 // of a triangle likewise.
-#[derive(Drop)]
+#[derive(Clone, Copy)]
 pub struct Two {
     pub a: Num,
     pub b: Num,
 }
 
-#[derive(Drop)]
+#[derive(Clone, Copy)]
 pub struct Four {
     pub a: Num,
     pub b: Num,
@@ -22,14 +22,14 @@ pub struct Four {
     pub d: Num,
 }
 
-#[derive(Drop)]
+#[derive(Clone, Copy)]
 pub struct Three {
     pub a: Num,
     pub b: Num,
     pub c: Num,
 }
 
-#[derive(Drop)]
+#[derive(Clone, Copy)]
 pub struct Six {
     pub a: Num,
     pub b: Num,

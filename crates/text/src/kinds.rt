@@ -8,7 +8,7 @@ ghost use Rattle.text.specs.kinds.Read.{Begins, ReadsEnd};
 use crate::words::{Cursor, LEFT_OVER, TOO_LONG, begins, next};
 
 // Where the reading of a line stopped, and where its answer line ends in the lent buffer: 0 where the line cannot be read.
-#[derive(Drop)]
+#[derive(Clone, Copy)]
 pub struct Replied {
     pub cursor: Cursor,
     pub end: usize,

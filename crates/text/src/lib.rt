@@ -1,5 +1,7 @@
 // Request lines, read: what a line says, or what is wrong with it and where. The readers are handed a cursor and hand one on,
 // straight to the end of the line; once it is refused they read nothing more.
+#![tactic(auto)]
+
 pub mod kinds;
 pub mod numbers;
 pub mod pieces;
@@ -17,7 +19,7 @@ use crate::words::{Cursor, age_of, next};
 use request::Head;
 
 // What a line says besides its two lists, of which the counts are here: a request, unless the cursor is refused.
-#[derive(Drop)]
+#[derive(Clone, Copy)]
 pub struct Reading {
     pub cursor: Cursor,
     pub head: Head,
@@ -27,7 +29,7 @@ pub struct Reading {
     pub age: u16,
 }
 
-#[derive(Drop)]
+#[derive(Clone, Copy)]
 pub struct Aged {
     pub cursor: Cursor,
     pub age: u16,

@@ -9,24 +9,24 @@ use crate::words::{Cursor, next, number_of};
 use request::Head;
 
 // A number of 32 bits.
-#[derive(Drop)]
+#[derive(Clone, Copy)]
 pub struct Value(pub i32);
 
 // A number by its sign and its size, and the cursor after it.
-#[derive(Drop)]
+#[derive(Clone, Copy)]
 pub struct Got {
     pub cursor: Cursor,
     pub minus: bool,
     pub size: u64,
 }
 
-#[derive(Drop)]
+#[derive(Clone, Copy)]
 pub struct Listed {
     pub cursor: Cursor,
     pub count: usize,
 }
 
-#[derive(Drop)]
+#[derive(Clone, Copy)]
 pub struct Headed {
     pub cursor: Cursor,
     pub head: Head,

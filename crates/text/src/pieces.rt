@@ -7,7 +7,7 @@ ghost use Rattle.text.specs.pieces.Kept.{is_passed, kept_byte, Cuts};
 use crate::words::{is_blank, skip};
 
 // Where reading goes on in the part, how many bytes of the line are kept, and whether the line has ended.
-#[derive(Drop)]
+#[derive(Clone, Copy)]
 pub struct Piece {
     pub at: usize,
     pub kept: usize,

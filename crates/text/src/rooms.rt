@@ -10,14 +10,14 @@ use crate::numbers::number;
 use crate::words::{Cursor, is_age, next};
 
 // Room for numerators and for points, and whether the line gives them.
-#[derive(Drop)]
+#[derive(Clone, Copy)]
 pub struct Rooms {
     pub given: bool,
     pub exact: usize,
     pub points: usize,
 }
 
-#[derive(Drop)]
+#[derive(Clone, Copy)]
 pub struct Roomed {
     pub cursor: Cursor,
     pub rooms: Rooms,

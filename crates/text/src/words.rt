@@ -6,7 +6,7 @@ ghost use Rattle.text.specs.words.Read.{is_of, Skips, Inside, Finds, cap, ReadsD
 
 // The word that was read last stands from start to before end, and reading goes on at end; or it is the word that is wrong,
 // for the reason `wrong`, and nothing more is read.
-#[derive(Drop)]
+#[derive(Clone, Copy)]
 pub struct Cursor {
     pub start: usize,
     pub end: usize,
@@ -14,7 +14,7 @@ pub struct Cursor {
 }
 
 // A number by its sign and its size; or what is wrong, where that is not 0, and then the number is 0.
-#[derive(Drop)]
+#[derive(Clone, Copy)]
 pub struct Found {
     pub wrong: u8,
     pub minus: bool,

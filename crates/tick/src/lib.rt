@@ -1,5 +1,7 @@
 // The curve of a composed net, read at a tick (rule Reading at a tick; 02, ticket 9): de Casteljau's steps on values of 1/65,536
 // of a unit, each rounded. A net and a moment are judged first; whatever they are, there is an answer.
+#![tactic(auto)]
+
 ghost use Rattle.std.specs.Prelude.{◌≡◌, map, ◌+◌, ◌*◌, ◌/◌, ◌≤◌, ◌<◌, pos, nat_abs, length, get_or, set, take};
 ghost use Rattle.whole.specs.Round.{on_side_of, nearest};
 ghost use Rattle.request.specs.Refusal.{value_place};
@@ -11,12 +13,12 @@ use request::Answer;
 use whole::Num;
 
 // A moment of a ride: 1024 is its end.
-#[derive(Drop)]
+#[derive(Clone, Copy)]
 pub struct Moment(pub u32);
 
 // number: 0 for accepted, else the refusal's. place: the least index of a point beyond its bounds (VALUE), else 0. reading: in
 // 1/65,536 of a unit, 0 for a refusal.
-#[derive(Drop)]
+#[derive(Clone, Copy)]
 pub struct Tick {
     pub number: u32,
     pub place: usize,

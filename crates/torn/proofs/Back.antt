@@ -121,7 +121,7 @@ apart marks all = rw zero-add at (apart_from 0 [] marks all)
 pub no-runs : (from : ℕ) (pairs : List Pair) → runs_from from [] (map keeps pairs) ≡ []
 unfolding runs_from closed
 no-runs from [] = refl
-no-runs from (pair ∷ pairs) = no-runs _ pairs
+no-runs from (pair ∷ pairs) = no-runs (from + 0 + length (pair_bytes pair)) pairs
 
 -- ---- runs as the marks come
 
@@ -139,7 +139,7 @@ runs-keep-on from [] marks = rw add-zero
 runs-keep-on from (pair ∷ pairs) marks =
     let n : from + 0 + length (pair_bytes pair) + length (joined pairs) ≡ from + length (pair_bytes pair ++ joined pairs) =
     omega (arith, length-append (pair_bytes pair) (joined pairs)) in
-    runs-keep-on _ pairs marks ∙ ap (λ (k : ℕ). runs_from k [] marks) n
+    runs-keep-on (from + 0 + length (pair_bytes pair)) pairs marks ∙ ap (λ (k : ℕ). runs_from k [] marks) n
 
 pub runs-keep : (from : ℕ) (lost : List ℕ) (pair : Pair) (pairs : List Pair) (marks : List Mark)
     → runs_from from lost (map keeps (pair ∷ pairs) ++ marks)

@@ -1,5 +1,7 @@
 // A whole number by two words, a signed high and an unsigned low one, worth high·2^64 + low: made from the two limbs of a sum,
 // and rounded by `whole::nearest`, to which a law brings it (`reduced` in proofs/Dividing.antt).
+#![tactic(auto)]
+
 ghost use Rattle.std.specs.Prelude.{◌≡◌, ◌+◌, ◌*◌, ◌/◌, ◌^◌, ◌<◌, ◌≤◌, length, pos, ◌+ℤ◌, slice_index_or, unsigned_abs};
 ghost use Rattle.whole.specs.Round.{on_side_of, nearest};
 ghost use Rattle.limbs.specs.Limbs.{two_limbs, worth};
@@ -10,7 +12,7 @@ use whole::Num;
 const BASE: u64 = 4294967296;
 
 // A whole number by two words, worth high·2^64 + low.
-#[derive(Drop)]
+#[derive(Clone, Copy)]
 pub struct Words {
     pub high: Num,
     pub low: u64,
@@ -59,7 +61,7 @@ pub fn joined(sums: &[i64], s: usize) -> Words
 // ---- the rounding
 
 // A size by two words.
-#[derive(Drop)]
+#[derive(Clone, Copy)]
 pub struct Size {
     pub high: u64,
     pub low: u64,

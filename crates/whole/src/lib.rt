@@ -1,11 +1,13 @@
 // Whole numbers that fit 64 bits: their sum, their product and rounding. What they mean is in specs/, the laws are in
 // proofs/. Callers see plain whole numbers, since the bits of a number stay inside these functions. Assumes nothing.
+#![tactic(auto)]
+
 ghost use Rattle.std.specs.Prelude.{◌≡◌, ◌+◌, ◌*◌, ◌-◌, ◌/◌, ◌%◌, ◌^◌, ◌≤◌, ◌<◌, not, pos, neg_ℤ, nat_abs, ◌+ℤ◌, ◌*ℤ◌};
 ghost use Rattle.std.specs.Int.Signed.{mag, non_neg};
 ghost use Rattle.whole.specs.Round.{on_side_of, nearest, Divided};
 
 // A whole number that fits 64 bits.
-#[derive(Drop)]
+#[derive(Clone, Copy)]
 pub struct Num(pub i64);
 
 pub fn sum(a: Num, b: Num) -> Num

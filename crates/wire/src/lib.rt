@@ -1,5 +1,7 @@
 // Numbers of two bytes, as records hold them: the low byte first. Past the end of a slice its bytes count as 0, as in the
 // definitions, so that nothing is asked of a caller.
+#![tactic(auto)]
+
 ghost use Rattle.std.specs.Prelude.{◌≡◌, ◌-◌, ◌<◌, pos, neg_ℤ, get_or};
 ghost use Rattle.wire.specs.Words.{word_end, Short, word_at, signed};
 

@@ -5,14 +5,14 @@ ghost use Rattle.asking.specs.answers.Contract.{behind_line, Takes};
 use crate::answers::answer;
 
 // Where the reading of an input stands: how many bytes of the line are kept, and the line's number.
-#[derive(Drop)]
+#[derive(Clone, Copy)]
 pub struct Lines {
     pub kept: usize,
     pub row: u64,
 }
 
 // Where reading goes on in the part, where it stands then, and how many bytes were written to a line that ended.
-#[derive(Drop)]
+#[derive(Clone, Copy)]
 pub struct Taken {
     pub at: usize,
     pub lines: Lines,

@@ -212,7 +212,7 @@ module _ (part : List ℕ) (at : ℕ) (before : List ℕ) (kept : ℕ) (line : L
           (drop (i + 1) part) in record { kept = c.kept; read = suc c.read; ended = c.ended })
       step =
           let t : take end' line' ≡ more = rw (k.holds, front line more fits) (take_at more _ end' (sym k.ends)) in
-          rw (t, add-one i, drop-cons part i 0 l, ne_eqb _ _ n, ← so_far.size)
+          rw (t, add-one i, drop-cons part i 0 l, ne_eqb _ _ n, so_far.size)
 
 -- a last byte in place of one that passes, and a byte that does not
 module _ (p : ℕ → Bool) where

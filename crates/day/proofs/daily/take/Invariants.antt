@@ -1,0 +1,14 @@
+-- `day::daily::take` meets its contract: the invariant is that the bytes of the part before i were fed. Assumes nothing.
+use Prim.Native.Nat.{◌-◌}
+use lib.ListN.{length}
+use Rattle.feed.specs.Feed.{feed_in}
+use Rattle.feed.proofs.Parts.{Passed}
+use Rattle.day.specs.daily.Read.{step}
+use Rattle.day.proofs.daily.take.Given as goal
+
+abbrev pub invariant-loop-i : goal.invariant-loop-i
+invariant-loop-i l =
+    Passed step (feed_in l.initial.held l.initial.rest l.initial.sheet) l.part (feed_in l.held l.rest l.sheet) l.i
+
+abbrev pub decreases-loop-i : goal.decreases-loop-i
+decreases-loop-i l = length l.part - l.i

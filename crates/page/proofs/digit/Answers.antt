@@ -1,0 +1,10 @@
+-- `page::digit` meets its contract. Assumes nothing.
+use native.Mathlib.Omega.{arith}
+use Rattle.page.proofs.Putting.{low_digit, high_digit}
+use Rattle.page.proofs.digit.Goals as goal
+
+pub returns-then-d-lt10 : goal.returns-then-d-lt10
+returns-then-d-lt10 c = low_digit _ (omega arith)
+
+pub returns : goal.returns
+returns c = high_digit _ (omega arith)

@@ -1,0 +1,20 @@
+-- `text::kinds::begin` meets its contract: too long, or not. Assumes nothing.
+use lib.ListN.{length}
+use native.Mathlib.Omega.{arith}
+use borrow.Author.Tests.{lt-ltb, le-ltb}
+use Rattle.text.specs.kinds.Kinds.{longest_line, begun}
+use Rattle.text.proofs.kinds.begin.Goals as goal
+
+pub returns-then-line-gt4096 : goal.returns-then-line-gt4096
+unfolding begun
+returns-then-line-gt4096 c = record {
+  is = rw (lt-ltb longest_line (length c.args.line.now) (omega arith)) c.overlong.ensures;
+  inside = rw c.overlong.ensures (record { order = omega arith; end = omega arith });
+}
+
+pub returns : goal.returns
+unfolding begun
+returns c = record {
+  is = rw (le-ltb longest_line (length c.args.line.now) (omega arith));
+  inside = record { order = omega arith; end = omega arith };
+}
