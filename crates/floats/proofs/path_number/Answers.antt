@@ -10,6 +10,12 @@ use Rattle.floats.proofs.Near.{Inside, inside}
 use Rattle.floats.proofs.Numbers.{equals, path_is, path-none}
 use Rattle.floats.proofs.path_number.Goals as goal
 
+pub truncating_f64_to_u64-k-requires : goal.truncating_f64_to_u64-k-requires
+unfolding of_bits
+truncating_f64_to_u64-k-requires c =
+    let i : Inside c.args.x = inside _ c.if-not-x.false c.if-x.false in
+    record { lower_bound = i.over; upper_bound = i.under }
+
 pub returns-then-not-x : goal.returns-then-not-x
 unfolding of_bits
 returns-then-not-x c =
@@ -21,12 +27,6 @@ unfolding of_bits
 returns-then-x c =
     let below = sym c.if-x.true in
     c.none-then-x.ensures ∙ ap pos (path-none c.args.x (λ k h t. true≢false (below ∙ (equals _ k h t).below)))
-
-pub truncating_f64_to_u64-k-requires : goal.truncating_f64_to_u64-k-requires
-unfolding of_bits
-truncating_f64_to_u64-k-requires c =
-    let i : Inside c.args.x = inside _ c.if-not-x.false c.if-x.false in
-    record { lower_bound = i.over; upper_bound = i.under }
 
 pub returns-then-nearest_u64_to_f64-x : goal.returns-then-nearest_u64_to_f64-x
 unfolding ne float

@@ -11,6 +11,18 @@ use Rattle.patch.specs.patch_sums.Contract.{index_of, whole, PointAt}
 use Rattle.patch.proofs.patch_sums.Filling.{here, still, still-long}
 use Rattle.patch.proofs.patch_sums.fill.Goals as goal
 
+pub store_term-requires : goal.store_term-requires
+store_term-requires c =
+    let path = c.args.path.now in
+    let good = c.requires.1 in
+    let w = (let h : whole c.loop-c.at ≤ 9 = let w = ((let h : Stands c.args.N c.loop-c.c (index_of c.loop-c.at) = c.loop-c.invariant.3 c.loop-c-test.true in h)).whole in let n = c.requires.0 in omega arith in h) in (
+      (let h : c.loop-c.c < 10 = omega (arith, places-few _ c.requires.0, c.places-count.ensures) in h),
+      omega (arith, c.key.ensures),
+      omega (arith, c.multinomial.ensures.1),
+      rw c.path_size_at-a.ensures (path-numbers path good (3 * c.loop-c.c)).most,
+      rw c.path_size_at-b.ensures (path-numbers path good (3 * c.loop-c.c + 1)).most,
+    )
+
 pub loop-c-init : goal.loop-c-init
 loop-c-init c = (omega arith, c.requires.2, below_none _, λ h. stands-first _)
 
@@ -28,18 +40,6 @@ key-requires c = (let h : whole c.loop-c.at ≤ 9 = let w = ((let h : Stands c.a
 
 pub multinomial-requires : goal.multinomial-requires
 multinomial-requires c = (let h : whole c.loop-c.at ≤ 9 = let w = ((let h : Stands c.args.N c.loop-c.c (index_of c.loop-c.at) = c.loop-c.invariant.3 c.loop-c-test.true in h)).whole in let n = c.requires.0 in omega arith in h)
-
-pub store_term-requires : goal.store_term-requires
-store_term-requires c =
-    let path = c.args.path.now in
-    let good = c.requires.1 in
-    let w = (let h : whole c.loop-c.at ≤ 9 = let w = ((let h : Stands c.args.N c.loop-c.c (index_of c.loop-c.at) = c.loop-c.invariant.3 c.loop-c-test.true in h)).whole in let n = c.requires.0 in omega arith in h) in (
-      (let h : c.loop-c.c < 10 = omega (arith, places-few _ c.requires.0, c.places-count.ensures) in h),
-      omega (arith, c.key.ensures),
-      omega (arith, c.multinomial.ensures.1),
-      rw c.path_size_at-a.ensures (path-numbers path good (3 * c.loop-c.c)).most,
-      rw c.path_size_at-b.ensures (path-numbers path good (3 * c.loop-c.c + 1)).most,
-    )
 
 pub next-at-requires : goal.next-at-requires
 next-at-requires c = (let h : whole c.loop-c.at ≤ 9 = let w = ((let h : Stands c.args.N c.loop-c.c (index_of c.loop-c.at) = c.loop-c.invariant.3 c.loop-c-test.true in h)).whole in let n = c.requires.0 in omega arith in h)
