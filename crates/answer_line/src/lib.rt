@@ -4,99 +4,111 @@
 
 mod long_decimal;
 
-ghost use Rattle.std.specs.Prelude.{[], ◌∷◌, ◌≡◌, ◌+◌, ◌*◌, ◌≤◌, ◌<◌, pos, length, get_or};
+ghost use Rattle.std.specs.Prelude.{[], ◌∷◌, ◌≡◌, ◌+◌, ◌*◌, ◌≤◌, ℤ, ℕ, map, length};
 ghost use Rattle.spell.specs.Decimal.{decimal, Written};
 ghost use Rattle.two_words.specs.Words.{two_words, numbers_of};
 ghost use Rattle.answer_line.specs.Answer.{spaced, judged, verdict, lists, answer_line, patch_line, reading_line, Listed};
 
 use crate::long_decimal::write_words;
-use request::units::{travel_at, units_of};
 use spell::{write_bytes, write_natural, write_next_natural, write_number};
 use two_words::Words;
 use whole::Num;
 
-// A space and a number.
-fn write_next(n: Num, out: &mut [u8], at: usize) -> usize
-    requires { at + 21 ≤ length out.old }
-    ensures { Written 21 out.old at (32 ∷ decimal n.0) out.new result }
-{
-    out[at] = b' ';
-    write_number(n, out, at + 1)
+// A number as a line has it: with a space before it, in at most so many bytes.
+trait Number: Copy {
+    ghost value: { Self → ℤ };
+
+    ghost room: { ℕ };
+
+    fn write_next(self, out: &mut [u8], at: usize) -> usize
+        requires { at + room ≤ length out.old }
+        ensures { Written room out.old at (32 ∷ decimal (value self)) out.new result };
 }
 
-// Numerator k, by its words.
-fn numerator(high: &[i64], low: &[u64], k: usize) -> Words
-    requires { (k < length high.now) × (k < length low.now) }
-    ensures { (result.high.0 ≡ get_or high.now k (pos 0)) × (result.low ≡ get_or low.now k 0) }
-{
-    Words {
-        high: Num(high[k]),
-        low: low[k],
+impl Number for Num {
+    ghost value = { λ n. n.0 };
+
+    ghost room = { 21 };
+
+    fn write_next(self, out: &mut [u8], at: usize) -> usize {
+        out[at] = b' ';
+        write_number(self, out, at + 1)
     }
 }
 
-// A space and a number by two words.
-fn write_next_words(n: Words, out: &mut [u8], at: usize) -> usize
-    requires { at + 41 ≤ length out.old }
-    ensures { Written 41 out.old at (32 ∷ decimal (two_words n.high.0 n.low)) out.new result }
-{
-    out[at] = b' ';
-    write_words(n, out, at + 1)
+impl Number for i64 {
+    ghost value = { λ n. n };
+
+    ghost room = { 21 };
+
+    fn write_next(self, out: &mut [u8], at: usize) -> usize {
+        Num(self).write_next(out, at)
+    }
 }
 
+impl Number for i32 {
+    ghost value = { λ n. n };
+
+    ghost room = { 21 };
+
+    fn write_next(self, out: &mut [u8], at: usize) -> usize {
+        Num(i64::from(self)).write_next(out, at)
+    }
+}
+
+// By its two words, high and low.
+impl Number for (i64, u64) {
+    ghost value = { λ n. two_words n.0 n.1 };
+
+    ghost room = { 41 };
+
+    fn write_next(self, out: &mut [u8], at: usize) -> usize {
+        let (high, low) = self;
+        out[at] = b' ';
+        write_words(
+            Words {
+                high: Num(high),
+                low,
+            },
+            out,
+            at + 1,
+        )
+    }
+}
+
+// Each number of a list.
+fn write_all<T: Number>(list: &[T], out: &mut [u8], at: usize) -> usize
+    requires { at + T.room * length list.now ≤ length out.old }
+    ensures { Written (T.room * length list.now) out.old at (spaced (map T.value list.now)) out.new result }
+{
+    let mut end = at;
+    for n in list {
+        end = n.write_next(out, end);
+    }
+    end
+}
+
+// Each numerator of two lists of words.
+// kept: the C interface: high and low words are lent as two arrays (`lean_compose`)
 fn write_numerators(high: &[i64], low: &[u64], out: &mut [u8], at: usize) -> usize
     requires { (length low.now ≡ length high.now) × (at + 41 * length high.now ≤ length out.old) }
     ensures { Written (41 * length high.now) out.old at
         (spaced (numbers_of high.now low.now)) out.new result }
 {
     let mut end = at;
-    let mut k = 0;
-    while k < high.len() {
-        end = write_next_words(numerator(high, low, k), out, end);
-        k += 1;
-    }
-    end
-}
-
-fn write_points(list: &[i32], out: &mut [u8], at: usize) -> usize
-    requires { at + 21 * length list.now ≤ length out.old }
-    ensures { Written (21 * length list.now) out.old at (spaced list.now) out.new result }
-{
-    let mut end = at;
-    let mut k = 0;
-    while k < list.len() {
-        end = write_next(units_of(travel_at(list, k)), out, end);
-        k += 1;
-    }
-    end
-}
-
-fn exact_at(list: &[i64], k: usize) -> Num
-    requires { k < length list.now }
-    ensures { result.0 ≡ get_or list.now k (pos 0) }
-{
-    Num(list[k])
-}
-
-fn write_exact(list: &[i64], out: &mut [u8], at: usize) -> usize
-    requires { at + 21 * length list.now ≤ length out.old }
-    ensures { Written (21 * length list.now) out.old at (spaced list.now) out.new result }
-{
-    let mut end = at;
-    let mut k = 0;
-    while k < list.len() {
-        end = write_next(exact_at(list, k), out, end);
-        k += 1;
+    for (k, high) in high.iter().enumerate() {
+        end = (*high, low[k]).write_next(out, end);
     }
     end
 }
 
 // `number place`.
+// kept: what may not change: the public `write_answer`, `write_patch` and `write_reading` take the two apart
 fn write_judged(number: u32, place: usize, out: &mut [u8], at: usize) -> usize
     requires { at + 41 ≤ length out.old }
     ensures { Written 41 out.old at (judged number place) out.new result }
 {
-    let a = write_natural(number as u64, out, at);
+    let a = write_natural(u64::from(number), out, at);
     write_next_natural(place as u64, out, a)
 }
 
@@ -126,6 +138,7 @@ fn write_bar(out: &mut [u8], at: usize) -> usize
 }
 
 // ` | numerators | points`.
+// kept: beside `write_both`, since numerators lie in two arrays, as C lends them, and are no slice of one Number
 fn write_lists(high: &[i64], low: &[u64], points: &[i32], out: &mut [u8], at: usize) -> usize
     requires { Listed high.now low.now points.now × (at + 4000 ≤ length out.old) }
     ensures { Written 4000 out.old at (lists (numbers_of high.now low.now) points.now) out.new result }
@@ -133,7 +146,7 @@ fn write_lists(high: &[i64], low: &[u64], points: &[i32], out: &mut [u8], at: us
     let a = write_bar(out, at);
     let b = write_numerators(high, low, out, a);
     let c = write_bar(out, b);
-    write_points(points, out, c)
+    write_all(points, out, c)
 }
 
 // The answer line, with its newline.
@@ -164,9 +177,9 @@ fn write_both(exact: &[i64], points: &[i32], out: &mut [u8], at: usize) -> usize
     ensures { Written 2692 out.old at (lists exact.now points.now) out.new result }
 {
     let a = write_bar(out, at);
-    let b = write_exact(exact, out, a);
+    let b = write_all(exact, out, a);
     let c = write_bar(out, b);
-    write_points(points, out, c)
+    write_all(points, out, c)
 }
 
 // The answer line of a patch, with its newline.
@@ -195,7 +208,7 @@ pub fn write_reading(number: u32, place: usize, reading: Num, out: &mut [u8]) ->
     ensures { Written 4096 out.old 0 (reading_line number place reading.0) out.new result }
 {
     let next = write_judged(number, place, out, 0);
-    let b = write_next(reading, out, next);
+    let b = reading.write_next(out, next);
     out[b] = b'\n';
     b + 1
 }

@@ -53,7 +53,8 @@ pub fn write_words(n: Words, out: &mut [u8], at: usize) -> usize
     let size = two_words::size_of(n);
     if whole::negative(n.high) {
         out[at] = b'-';
-        return write_size(size.high, size.low, out, at + 1);
+        write_size(size.high, size.low, out, at + 1)
+    } else {
+        write_size(size.high, size.low, out, at)
     }
-    write_size(size.high, size.low, out, at)
 }

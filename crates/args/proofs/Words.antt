@@ -1,85 +1,44 @@
 -- Laws of the words of a command line. Assumes nothing.
-use mathlib.Core.Path.{◌≡◌, refl, sym, ap, ◌∙◌}
-use mathlib.Core.Bool.{Bool, true, false, cond, ◌&&◌, false≢true}
-use mathlib.Core.List.{List, [], ◌∷◌}
-use Prim.Native.Nat.{ℕ, ◌+◌, ◌*◌, ◌-◌, ◌≤◌, ◌<◌}
-use native.Mathlib.Numerals.{add-one}
-use native.Mathlib.Omega.{arith}
-use lib.Dec.{eqb, ltb}
-use lib.ListN.{length, get_or, take, drop, drop_of_length-le}
-use lib.Seq.{drop-cons, take_all}
-use borrow.Author.Tests.{eq-eqb, ne_eqb, lt-ltb, le-ltb, eqb-true}
+use Rattle.std.proofs.Common.{◌≡◌, ℕ, ◌+◌, ◌*◌, ◌≤◌, ◌<◌, refl, ap, true, false, ◌&&◌, List, [], ◌∷◌, eqb, length, get_or, take, drop, drop-cons, drop_of_length-le, add-one, eq-eqb, ne_eqb, Some, None, Ok, Err, arith}
+use Rattle.std.specs.Cmp.Lexicographic.{pointwise}
+use Rattle.std.proofs.lemmas.Bool.{lt-ltb, le-ltb}
+use Rattle.std.proofs.lemmas.Grind.{common_steps}
+use Rattle.std.specs.Prelude.{Option as Maybe}
+use Rattle.std.specs.Option.{SomeIff}
+use Rattle.std.specs.Char.{digit_value}
 use Rattle.args.specs.Args.{alike, prefixed, digit_of, count_from, number_in}
-use Rattle.args.specs.declared.Number.TheVariants.{Is, TooLarge, None}
+use Rattle.args.specs.declared.NotNumber.TheVariants.{TooLarge, NoNumber}
 
-alike_self : (s : List ℕ) → alike s s ≡ true
+-- the same bytes, in the library's word
+pub alike-pointwise : (s t : List ℕ) → alike s t ≡ pointwise eqb s t
 unfolding alike
-alike_self [] = refl
-alike_self (a ∷ s) = rw (eq-eqb a a refl) (alike_self s)
+alike-pointwise [] [] = refl
+alike-pointwise [] (b ∷ t) = refl
+alike-pointwise (a ∷ s) [] = refl
+alike-pointwise (a ∷ s) (b ∷ t) = ap (λ x. eqb a b && x) (alike-pointwise s t)
 
-alike_same : (s t : List ℕ) → alike s t ≡ true → s ≡ t
-unfolding alike
-alike_same [] [] e = refl
-alike_same [] (b ∷ t) e = absurd (false≢true e)
-alike_same (a ∷ s) [] e = absurd (false≢true e)
-alike_same (a ∷ s) (b ∷ t) e = by (eqb a b) refl (alike_same s t)
-  where
-    by : (x : Bool) → eqb a b ≡ x → (alike s t ≡ true → s ≡ t) → a ∷ s ≡ b ∷ t
-    by true p more = let q : alike s t ≡ true = rw p at e in rw (eqb-true a b p, more q)
-    by false p more = absurd (false≢true (rw p at e))
-
--- what a comparison answers
-pub alike_is : (r : Bool) (s t : List ℕ) → (r ≡ true → s ≡ t) → (s ≡ t → r ≡ true) → r ≡ alike s t
-alike_is true s t f g = sym (rw (← f refl) (alike_self s))
-alike_is false s t f g = by (alike s t) refl
-  where
-    by : (x : Bool) → alike s t ≡ x → false ≡ alike s t
-    by true e = absurd (false≢true (g (alike_same s t e)))
-    by false e = sym e
-
--- a word that is shorter than a prefix
-pub too_short : (word front : List ℕ) → length word < length front → 0 ≡ prefixed word front
+-- a word that does not begin so, and one that does
+pub begins-not : (word front : List ℕ) → pointwise eqb (take (length front) word) front ≡ false → prefixed word front ≡ None
 unfolding prefixed
-too_short word front l = by (alike (take (length front) word) front) refl
-  where
-    by : (x : Bool) → alike (take (length front) word) front ≡ x → 0 ≡ cond x (length front) 0
-    by true e =
-        let same : length word ≡ length front =
-        ap length (sym (take_all (length front) word (omega arith)) ∙ alike_same (take (length front) word) front e) in
-        absurd (omega arith)
-    by false e = refl
+begins-not word front e = rw (alike-pointwise (take (length front) word) front, e)
 
-module _ (word front : List ℕ) (same : Bool) (is : same ≡ alike (take (length front) word) front) where
-  pub begins : same ≡ true → length front ≡ prefixed word front
-  unfolding prefixed
-  begins e = rw (← is, e)
+pub begins : (word front : List ℕ) → pointwise eqb (take (length front) word) front ≡ true → prefixed word front ≡ Some (drop (length front) word)
+unfolding prefixed
+begins word front e = rw (alike-pointwise (take (length front) word) front, e)
 
-  pub begins-not : same ≡ false → 0 ≡ prefixed word front
-  unfolding prefixed
-  begins-not e = rw (← is, e)
-
--- a word of one byte at most, and a longer one
-pub short-word : (word : List ℕ) → length word < 2 → false ≡ (ltb 1 (length word) && eqb (get_or word 0 0) 45)
-short-word word l = rw (le-ltb 1 (length word) (omega arith))
-
-pub long-word : (word : List ℕ) → 2 ≤ length word → eqb (get_or word 0 0) 45 ≡ (ltb 1 (length word) && eqb (get_or word 0 0) 45)
-long-word word l = rw (lt-ltb 1 (length word) (omega arith))
-
--- a digit, and a byte on either side of the digits
-pub digit-below : (b : ℕ) → b < 48 → 10 ≡ digit_of b
+-- a digit is below ten
+pub below-ten : (b d : ℕ) → digit_of b ≡ Some d → d < 10
 unfolding digit_of
-digit-below b l = rw (lt-ltb b 48 l)
+below-ten b d e = grind (arith, common_steps)
 
-pub digit-above : (b : ℕ) → 57 < b → 10 ≡ digit_of b
+-- the library's digit
+pub to-digit : (b x : ℕ) (o : Maybe ℕ) → x ≡ b → SomeIff o (digit_value x < 10) (digit_value x) → o ≡ digit_of b
 unfolding digit_of
-digit-above b l = rw (le-ltb b 48 (omega arith), lt-ltb 57 b l)
-
-pub digit-is : (b : ℕ) → 48 ≤ b → b ≤ 57 → b - 48 ≡ digit_of b
-unfolding digit_of
-digit-is b l m = rw (le-ltb b 48 l, le-ltb 57 b m)
+to-digit b x None e h = grind (arith, common_steps)
+to-digit b x (Some d) e h = grind (arith, common_steps)
 
 -- no word at all, and a word that is read digit after digit
-pub no_word : (word : List ℕ) → length word ≡ 0 → None ≡ number_in word
+pub no_word : (word : List ℕ) → length word ≡ 0 → Err NoNumber ≡ number_in word
 unfolding number_in
 no_word word e = rw (eq-eqb _ 0 e)
 
@@ -87,19 +46,19 @@ pub some_word : (word : List ℕ) → (length word ≡ 0 → ⊥) → number_in 
 unfolding number_in
 some_word word e = rw (ne_eqb _ 0 e)
 
-pub all_read : (word : List ℕ) (i n : ℕ) → length word ≤ i → count_from n (drop i word) ≡ Is n
+pub all_read : (word : List ℕ) (i n : ℕ) → length word ≤ i → count_from n (drop i word) ≡ Ok n
 unfolding count_from
 all_read word i n l = rw (drop_of_length-le word l)
 
-module _ (word : List ℕ) (i n : ℕ) (h : i < length word) (d : ℕ) (is : d ≡ digit_of (get_or word i 0)) where
-  pub no_digit : d ≡ 10 → count_from n (drop i word) ≡ None
+module _ (word : List ℕ) (i n : ℕ) (h : i < length word) where
+  pub no_digit : digit_of (get_or word i 0) ≡ None → count_from n (drop i word) ≡ Err NoNumber
   unfolding count_from
-  no_digit e = rw (drop-cons word i 0 h, ← is, eq-eqb d 10 e)
+  no_digit e = rw (drop-cons word i 0 h, count_from, e)
 
-  pub too_large : (d ≡ 10 → ⊥) → 100000000000000000 ≤ n → count_from n (drop i word) ≡ TooLarge
+  pub too_large : (d : ℕ) → digit_of (get_or word i 0) ≡ Some d → 100000000000000000 ≤ n → count_from n (drop i word) ≡ Err TooLarge
   unfolding count_from
-  too_large e l = rw (drop-cons word i 0 h, ← is, ne_eqb d 10 e, le-ltb n 100000000000000000 l)
+  too_large d e l = rw (drop-cons word i 0 h, count_from, e, le-ltb n 100000000000000000 l)
 
-  pub digit-more : (d ≡ 10 → ⊥) → n < 100000000000000000 → count_from n (drop i word) ≡ count_from (10 * n + d) (drop (i + 1) word)
+  pub digit-more : (d : ℕ) → digit_of (get_or word i 0) ≡ Some d → n < 100000000000000000 → count_from n (drop i word) ≡ count_from (10 * n + d) (drop (i + 1) word)
   unfolding count_from
-  digit-more e l = rw (add-one i, drop-cons word i 0 h, ← is, ne_eqb d 10 e, lt-ltb n 100000000000000000 l)
+  digit-more d e l = rw (add-one i, drop-cons word i 0 h, count_from, e, lt-ltb n 100000000000000000 l)

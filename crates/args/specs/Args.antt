@@ -1,9 +1,10 @@
 -- The words of a command line, the same in every program. Assumes nothing.
-use Rattle.std.specs.Prelude.{Bool, true, false, cond, ◌&&◌, List, [], ◌∷◌, ℕ, ◌+◌, ◌*◌, ◌-◌, eqb, ltb, length, get_or, take}
+use Rattle.std.specs.Prelude.{Bool, true, false, cond, ◌&&◌, List, [], ◌∷◌, ℕ, ◌+◌, ◌*◌, ◌-◌, eqb, ltb, length, get_or, take, drop, Some, None, Result, Ok, Err}
+use Rattle.std.specs.Prelude.{Option as Maybe}
 use Rattle.args.specs.declared.Kind.{Kind}
 use Rattle.args.specs.declared.Kind.TheVariants.{Help, Version, Rest, Option, Name}
-use Rattle.args.specs.declared.Number.{Number}
-use Rattle.args.specs.declared.Number.TheVariants.{Is, TooLarge, None}
+use Rattle.args.specs.declared.NotNumber.{NotNumber}
+use Rattle.args.specs.declared.NotNumber.TheVariants.{TooLarge, NoNumber}
 
 -- the same bytes
 unfoldable pub alike : List ℕ → List ℕ → Bool
@@ -33,19 +34,22 @@ kind_of word =
     (cond (alike word version_word) Version
     (cond (alike word rest_word) Rest (cond (ltb 1 (length word) && eqb (get_or word 0 0) 45) Option Name))))
 
--- how many bytes of a word are `prefix`: all of them, or none
-unfoldable pub prefixed : List ℕ → List ℕ → ℕ
-prefixed word prefix = cond (alike (take (length prefix) word) prefix) (length prefix) 0
+-- what follows `prefix` in a word that begins with it
+unfoldable pub prefixed : List ℕ → List ℕ → Maybe (List ℕ)
+prefixed word prefix = cond (alike (take (length prefix) word) prefix) (Some (drop (length prefix) word)) None
 
--- the number that a digit is, and 10 for another byte
-unfoldable pub digit_of : ℕ → ℕ
-digit_of b = cond (ltb b 48) 10 (cond (ltb 57 b) 10 (b - 48))
+-- the number that a digit is, and none for another byte
+unfoldable pub digit_of : ℕ → Maybe ℕ
+digit_of b = cond (ltb b 48) None (cond (ltb 57 b) None (Some (b - 48)))
 
 -- a number in decimal digits, up to 18 of them
-unfoldable pub count_from : ℕ → List ℕ → Number
-count_from n [] = Is n
+unfoldable pub count_from : ℕ → List ℕ → Result ℕ NotNumber
+count_from n [] = Ok n
 count_from n (b ∷ s) =
-    cond (eqb (digit_of b) 10) None (cond (ltb n 100000000000000000) (count_from (10 * n + digit_of b) s) TooLarge)
+    elim (digit_of b) [
+      | None ↦ Err NoNumber
+      | Some d ↦ cond (ltb n 100000000000000000) (count_from (10 * n + d) s) (Err TooLarge)
+    ]
 
-unfoldable pub number_in : List ℕ → Number
-number_in word = cond (eqb (length word) 0) None (count_from 0 word)
+unfoldable pub number_in : List ℕ → Result ℕ NotNumber
+number_in word = cond (eqb (length word) 0) (Err NoNumber) (count_from 0 word)

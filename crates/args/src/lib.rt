@@ -1,12 +1,12 @@
 // The words of a command line, the same in every program.
 #![tactic(auto)]
 
-ghost use Rattle.std.specs.Prelude.{◌≡◌, ◌&&◌, ◌≤◌, eqb, ltb, length, get_or};
-ghost use Rattle.args.specs.Args.{alike, kind_of, prefixed, digit_of, number_in};
+ghost use Rattle.std.specs.Prelude.{◌≡◌, ◌&&◌, ◌+◌, eqb, ltb, length, get_or, MatchOption};
+ghost use Rattle.args.specs.Args.{alike, kind_of, prefixed, number_in};
 
 // What a word is: it asks for the help text, for the version; it says that what follows are names; it is an option; or it names
 // an input.
-#[derive(Clone, Copy)]
+#[derive(Clone, Copy, PartialEq, Eq)]
 pub enum Kind {
     Help,
     Version,
@@ -15,36 +15,32 @@ pub enum Kind {
     Name,
 }
 
-// A number, one that is too large, or none.
-#[derive(Clone, Copy)]
-pub enum Number {
-    Is(u64),
+// Why a word is no number that can be taken.
+#[derive(Clone, Copy, PartialEq, Eq)]
+pub enum NotNumber {
     TooLarge,
-    None,
+    NoNumber,
 }
 
+// kept: a public function, of which docs/PROMISES.md says more than of `==`.
 pub fn is(word: &[u8], other: &[u8]) -> bool
     ensures { result ≡ alike word.now other.now }
 {
-    check::same(word, other)
+    word == other
 }
 
 fn is_option(word: &[u8]) -> bool
     ensures { result ≡ (ltb 1 (length word.now) && eqb (get_or word.now 0 0) 45) }
 {
-    if word.len() < 2 {
-        return false;
-    }
-    word[0] == b'-'
+    word.len() > 1 && word[0] == b'-'
 }
 
+#[tactic(auto, unfolding(crate::specs::Args::kind_of))]
 pub fn kind_of(word: &[u8]) -> Kind
     ensures { result ≡ kind_of word.now }
 {
-    if is(word, b"-h") {
-        return Kind::Help;
-    }
-    if is(word, b"--help") {
+    // kept: a match on the bytes was tried; it makes a goal of each byte, and they did not close.
+    if is(word, b"-h") || is(word, b"--help") {
         return Kind::Help;
     }
     if is(word, b"--version") {
@@ -59,51 +55,27 @@ pub fn kind_of(word: &[u8]) -> Kind
     Kind::Name
 }
 
-// How many bytes of a word are `front`: all of them, or none.
-pub fn prefix(word: &[u8], front: &[u8]) -> usize
-    ensures { (result ≡ prefixed word.now front.now) × (result ≤ length word.now) }
+// What follows `front` in a word that begins with it.
+pub fn prefix<'a>(word: &'a [u8], front: &[u8]) -> Option<&'a [u8]>
+    ensures { MatchOption result (prefixed word.now front.now ≡ None) (λ rest. (prefixed word.now front.now ≡ Some rest.now) × (length rest.now + length front.now ≡ length word.now)) }
 {
-    let n = front.len();
-    if word.len() < n {
-        return 0;
-    }
-    if is(&word[..n], front) {
-        return n;
-    }
-    0
-}
-
-fn digit(b: u8) -> u64
-    ensures { (result ≡ digit_of b) × (result ≤ 10) }
-{
-    if b < b'0' {
-        return 10;
-    }
-    if b > b'9' {
-        return 10;
-    }
-    (b - b'0') as u64
+    word.strip_prefix(front)
 }
 
 // The number that a word is, in decimal digits.
-pub fn number_of(word: &[u8]) -> Number
+pub fn number_of(word: &[u8]) -> Result<u64, NotNumber>
     ensures { result ≡ number_in word.now }
 {
-    if word.len() == 0 {
-        return Number::None;
+    if word.is_empty() {
+        return Err(NotNumber::NoNumber);
     }
     let mut n: u64 = 0;
-    let mut i = 0;
-    while i < word.len() {
-        let d = digit(word[i]);
-        if d == 10 {
-            return Number::None;
-        }
+    for b in word {
+        let d = char::from(*b).to_digit(10).ok_or(NotNumber::NoNumber)?;
         if n >= 100000000000000000 {
-            return Number::TooLarge;
+            return Err(NotNumber::TooLarge);
         }
-        n = 10 * n + d;
-        i += 1;
+        n = 10 * n + u64::from(d);
     }
-    Number::Is(n)
+    Ok(n)
 }

@@ -1,6 +1,9 @@
 // The inputs that the arguments name, one after the other.
+use crate::wish::Wanted;
 use args::Kind;
+use files::Verdict;
 use files::program::kind_at;
+use files::told::{trouble, written};
 use std::rt::HostRuntime;
 use streams::Stream;
 
@@ -9,94 +12,76 @@ use streams::Stream;
 struct Sofar {
     out: Stream,
     err: Stream,
-    verdict: u64,
+    verdict: Verdict,
     rest: bool,
 }
 
-fn worse(a: u64, b: u64) -> u64 {
-    if a < b { b } else { a }
-}
-
-// The input that argument i names, or standard input where that is 0.
-fn answer(rt: HostRuntime, i: usize, by_names: bool, sofar: Sofar) -> Sofar {
-    let mut next = sofar;
-    let mut name = io::buffer();
-    let input = files::open(rt, i, &mut name);
-    let n = input.size;
-    let from = input.stream;
-    if from.failed {
-        files::told::trouble(b"ask", &name[..n]);
-        next.verdict = 2;
-        return next;
+// The input that an argument names, or standard input where there is none.
+fn answer(rt: HostRuntime, file: Option<usize>, by_names: bool, sofar: Sofar) -> Sofar {
+    let mut room = io::buffer();
+    let input = files::open(rt, file, &mut room);
+    if input.stream.failed {
+        trouble(b"ask", input.name);
+        return Sofar {
+            verdict: Verdict::Trouble,
+            ..sofar
+        };
     }
     let asked = asking::answer_all(
-        from,
+        input.stream,
         &input.source,
-        &name[..n],
+        input.name,
         by_names,
         sofar.out,
         sofar.err,
     );
-    let read = asked.input;
-    let out = asked.out;
-    let err = asked.err;
-    next.out = out;
-    next.err = err;
-    if out.failed {
-        next.verdict = files::told::written(b"ask", out, 2);
+    let mut next = Sofar {
+        out: asked.out,
+        err: asked.err,
+        ..sofar
+    };
+    if asked.out.failed {
+        next.verdict = written(b"ask", asked.out, Verdict::Trouble);
         return next;
     }
-    if read.failed {
-        files::told::trouble(b"ask", &name[..n]);
-        next.verdict = 2;
+    if asked.input.failed {
+        trouble(b"ask", input.name);
+        next.verdict = Verdict::Trouble;
     }
     files::close(input.source);
     if asked.unreadable {
-        next.verdict = worse(next.verdict, 1);
-    }
-    next
-}
-
-// Argument i, where it names an input.
-fn answer_at(rt: HostRuntime, i: usize, by_names: bool, sofar: Sofar) -> Sofar {
-    let mut next = sofar;
-    match kind_at(rt, i, sofar.rest) {
-        Kind::Rest => {
-            next.rest = true;
-        }
-        Kind::Name => {
-            next = answer(rt, i, by_names, sofar);
-        }
-        _ => {}
+        next.verdict = next.verdict.max(Verdict::Differs);
     }
     next
 }
 
 // Each input, until an answer cannot be written; the verdict on all of them.
-fn answer_each(rt: HostRuntime, count: usize, by_names: bool, begun: Sofar) -> u64 {
+fn answer_each(rt: HostRuntime, by_names: bool, begun: Sofar) -> Verdict {
     let mut sofar = begun;
-    let mut i = 1;
-    while i < count {
-        sofar = answer_at(rt, i, by_names, sofar);
-        let out = sofar.out;
-        if out.failed {
-            return sofar.verdict;
+    for i in 1..files::argument_count(rt) {
+        match kind_at(rt, i, sofar.rest) {
+            Kind::Rest => sofar.rest = true,
+            Kind::Name => sofar = answer(rt, Some(i), by_names, sofar),
+            _ => {}
         }
-        i += 1;
+        if sofar.out.failed {
+            break;
+        }
     }
     sofar.verdict
 }
 
 // All that the arguments ask for.
-pub fn answer_all(rt: HostRuntime, by_names: bool, inputs: usize) -> u64 {
+pub fn answer_all(rt: HostRuntime, wanted: Wanted) -> Verdict {
     let begun = Sofar {
         out: streams::standard_output(),
         err: streams::standard_error(),
-        verdict: 0,
+        verdict: Verdict::Well,
         rest: false,
     };
-    if inputs == 0 {
-        return answer(rt, 0, by_names, begun).verdict;
+    if wanted.named {
+        answer_each(rt, wanted.by_names, begun)
+    } else {
+        answer(rt, None, wanted.by_names, begun).verdict
     }
-    answer_each(rt, files::argument_count(rt), by_names, begun)
 }

@@ -6,24 +6,19 @@ mod help;
 mod input;
 mod wish;
 
+use files::program::read;
+use files::{Verdict, told};
 use std::rt::HostRuntime;
-use wish::Wish;
+use wish::Wanted;
 
 // Does what is wished, and answers the verdict.
-fn done(rt: HostRuntime, wish: Wish) -> u64 {
-    if wish.end == wish::HELP {
-        return help::print();
+fn done(rt: HostRuntime) -> Verdict {
+    match read(rt, b"ask", help::TEXT, Wanted::default()) {
+        Ok(wanted) => input::answer_all(rt, wanted),
+        Err(verdict) => verdict,
     }
-    if wish.end == wish::VERSION {
-        return files::told::version(b"ask");
-    }
-    if wish.end != wish::ALL {
-        files::told::complain(rt, b"ask", b"unknown option", wish.at);
-        return 2;
-    }
-    input::answer_all(rt, wish.by_names, wish.inputs)
 }
 
 fn main(rt: HostRuntime) {
-    files::told::verdict(done(rt, wish::read(rt, files::argument_count(rt))));
+    told::verdict(done(rt));
 }

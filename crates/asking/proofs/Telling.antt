@@ -8,7 +8,7 @@ use native.Mathlib.Omega.{arith}
 use lib.Dec.{ltb, eqb}
 use lib.ListN.{length, get_or, take, drop, set, length-append, length-take, length-set}
 use lib.Seq.{sets, take_all, take-add}
-use borrow.Author.Tests.{eq-eqb, ne_eqb, le-ltb, ltb-true}
+use borrow.Author.Tests.{le-ltb, ltb-true}
 use Rattle.spell.proofs.Writing.{front_read}
 use Rattle.text.specs.words.Words.{is_blank}
 use Rattle.text.specs.pieces.Kept.{kept_byte, Cut, cut_at}
@@ -29,29 +29,26 @@ use Rattle.asking.specs.declared.State.{State}
 
 module _ (how : How) (answers : List ℕ) (taken : Taken) (s : State) (o : Stream)
     (w : Wrote s.out (shown_by how.by_names (take taken.answer answers)) o) where
-  pub puts-quiet : (complaints : List ℕ) → length (take taken.complaint complaints) ≡ 0
+  pub puts-quiet : (complaints : List ℕ) → eqb (length (take taken.complaint complaints)) 0 ≡ true
       → Puts how answers complaints taken s (record { lines = taken.lines; out = o; err = s.err; wrong = s.wrong })
   unfolding blamed
   puts-quiet complaints e = record {
     lines_are = refl;
     answered = w;
-    complained = rw (eq-eqb _ 0 e) (wrote_none s.err);
-    wrong_is = rw (eq-eqb _ 0 e);
+    complained = rw e (wrote_none s.err);
+    wrong_is = rw e;
   }
 
-  pub puts-loud : (complaints : List ℕ) → 0 < length (take taken.complaint complaints) → (e f : Stream)
+  pub puts-loud : (complaints : List ℕ) → eqb (length (take taken.complaint complaints)) 0 ≡ false → (e f : Stream)
       → Wrote s.err how.name e → Wrote e (take taken.complaint complaints) f
       → Puts how answers complaints taken s (record { lines = taken.lines; out = o; err = f; wrong = true })
   unfolding blamed
-  puts-loud complaints l e f v x =
-      let complaint = take taken.complaint complaints in
-      let some : eqb (length complaint) 0 ≡ false = ne_eqb _ 0 (λ (z : length complaint ≡ 0). omega arith) in
-      record {
-        lines_are = refl;
-        answered = w;
-        complained = rw some (wrote-more s.err how.name e complaint f v x);
-        wrong_is = rw some;
-      }
+  puts-loud complaints some e f v x = record {
+    lines_are = refl;
+    answered = w;
+    complained = rw some (wrote-more s.err how.name e (take taken.complaint complaints) f v x);
+    wrong_is = rw some;
+  }
 
 -- an answer as it is wished
 pub shown_by_lem : (by_names : Bool) (line : List ℕ) (to : Stream) (bytes : List ℕ) (r : Stream) → by_names ≡ true → bytes ≡ by_name line

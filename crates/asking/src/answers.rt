@@ -8,8 +8,8 @@ ghost use Rattle.asking.specs.answers.Answer.{spoken_of};
 ghost use Rattle.asking.specs.answers.Contract.{room, SaysAll, Answers};
 
 pub use crate::answers::lines::{Lines, Taken, take};
-use text::kinds::{Replied, begin, is_kind};
-use text::words::next;
+use text::kinds::{begin, is_kind};
+use text::words::{Cursor, next};
 
 // How many bytes of the answer and of the complaint were written.
 #[derive(Clone, Copy)]
@@ -18,8 +18,14 @@ pub struct Lengths {
     pub complaint: usize,
 }
 
-// The answer line of what a line says, by its first word.
-fn reply_to(line: &[u8], out: &mut [u8]) -> Replied
+const NOTHING: Lengths = Lengths {
+    answer: 0,
+    complaint: 0,
+};
+
+// kept: room is asked of the whole lent buffer, which is what `Written` speaks of
+// The answer line of what a line says, by its first word: where it ends in the lent buffer, or where the line is wrong.
+fn reply_to(line: &[u8], out: &mut [u8]) -> Result<usize, Cursor>
     requires { answer_most ≤ length out.old }
     ensures { Replies (spoken_of line.now) line.now out.old out.new result }
 {
@@ -38,22 +44,17 @@ fn say(line: &[u8], row: u64, out: &mut [u8], err: &mut [u8]) -> Lengths
     ensures { SaysAll line.now row out.old err.old out.new err.new result }
 {
     if text::pieces::is_passed(line) {
-        return Lengths {
-            answer: 0,
-            complaint: 0,
-        };
+        return NOTHING;
     }
-    let replied = reply_to(line, out);
-    let cursor = replied.cursor;
-    if cursor.wrong != 0 {
-        return Lengths {
+    match reply_to(line, out) {
+        Ok(end) => Lengths {
+            answer: end,
+            complaint: 0,
+        },
+        Err(cursor) => Lengths {
             answer: text::tell::unreadable(out),
             complaint: text::tell::tell(line, cursor, row, err),
-        };
-    }
-    Lengths {
-        answer: replied.end,
-        complaint: 0,
+        },
     }
 }
 
@@ -62,17 +63,8 @@ fn say(line: &[u8], row: u64, out: &mut [u8], err: &mut [u8]) -> Lengths
 pub fn answer(line: &[u8], row: u64, out: &mut [u8], err: &mut [u8]) -> Lengths
     ensures { Answers line.now row out.old err.old out.new err.new result }
 {
-    if out.len() < 8192 {
-        return Lengths {
-            answer: 0,
-            complaint: 0,
-        };
-    }
-    if err.len() < 8192 {
-        return Lengths {
-            answer: 0,
-            complaint: 0,
-        };
+    if out.len() < 8192 || err.len() < 8192 {
+        return NOTHING;
     }
     say(line, row, out, err)
 }

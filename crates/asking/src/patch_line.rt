@@ -9,7 +9,7 @@ ghost use Rattle.asking.specs.patch_line.Line.{reply_of, spoken};
 ghost use Rattle.asking.specs.patch_line.Read.{ReadsPatch, Fits, line_in};
 
 use answer_line::write_patch;
-use text::kinds::{Replied, read_end};
+use text::kinds::read_end;
 use text::numbers::{number, read_list};
 use text::rooms::{Rooms, read_rooms, shown};
 use text::words::Cursor;
@@ -26,6 +26,7 @@ pub struct Reading {
 }
 
 // n and N; a list of control values, a list of path numbers; two rooms, if wanted; and no word more.
+// kept: no plainer: what is read and what is refused (`Reading`, `After`, a refusal) hold a cursor without its line
 fn read_patch(line: &[u8], from: Cursor, surface: &mut [i32; 64], path: &mut [i32; 64]) -> Reading
     requires { Inside line.now from }
     ensures { ReadsPatch line.now from surface.old path.old surface.new path.new result }
@@ -35,19 +36,18 @@ fn read_patch(line: &[u8], from: Cursor, surface: &mut [i32; 64], path: &mut [i3
     let values = read_list(line, N.cursor, surface);
     let numbers = read_list(line, values.cursor, path);
     let lent = read_rooms(line, numbers.cursor, 55);
-    let cursor = read_end(line, lent.cursor);
-    let rooms = lent.rooms;
     Reading {
-        cursor,
-        n: n.size as u32,
-        N: N.size as u32,
-        surface: values.count,
-        path: numbers.count,
-        rooms,
+        cursor: read_end(line, lent.cursor),
+        n: n.value.size as u32,
+        N: N.value.size as u32,
+        surface: values.value,
+        path: numbers.value,
+        rooms: lent.value,
     }
 }
 
 // The answer line of a patch, with arrays of its rooms lent.
+// kept: no twin of a ride's: `compose` fills two arrays for its numerators where `patch` fills one, and `given` goes to `shown`
 fn reply_in(
     n: u32,
     N: u32,
@@ -83,36 +83,28 @@ fn reply_read(reading: Reading, surface: &[i32], path: &[i32], out: &mut [u8]) -
     let mut exact = [-7i64; 64];
     let mut points = [-9i32; 64];
     let rooms = reading.rooms;
-    let values = reading.surface;
-    let numbers = reading.path;
-    let a = rooms.exact;
-    let b = rooms.points;
     reply_in(
         reading.n,
         reading.N,
         rooms.given,
-        &surface[..values],
-        &path[..numbers],
-        &mut exact[..a],
-        &mut points[..b],
+        &surface[..reading.surface],
+        &path[..reading.path],
+        &mut exact[..rooms.exact],
+        &mut points[..rooms.points],
         out,
     )
 }
 
 // The answer line of a patch line, of which the first word was read.
-pub fn reply(line: &[u8], from: Cursor, out: &mut [u8]) -> Replied
+pub fn reply(line: &[u8], from: Cursor, out: &mut [u8]) -> Result<usize, Cursor>
     requires { Inside line.now from × (length line.now ≤ longest_line) × (answer_most ≤ length out.old) }
     ensures { Replies (spoken line.now from) line.now out.old out.new result }
 {
     let mut surface = [0i32; 64];
     let mut path = [0i32; 64];
     let reading = read_patch(line, from, &mut surface, &mut path);
-    let cursor = reading.cursor;
-    if cursor.wrong != 0 {
-        return Replied { cursor, end: 0 };
+    if reading.cursor.wrong.is_some() {
+        return Err(reading.cursor);
     }
-    Replied {
-        cursor,
-        end: reply_read(reading, &surface, &path, out),
-    }
+    Ok(reply_read(reading, &surface, &path, out))
 }

@@ -11,13 +11,14 @@ use answer_line::write_answer;
 use request::Head;
 use request::units::Age;
 use text::Reading;
-use text::kinds::Replied;
 use text::rooms::shown;
+use text::words::Cursor;
 
 // The low word of -7, whose high word is -1.
 const LOW_SEVEN: u64 = 18446744073709551609;
 
 // The answer line of a request, with arrays of its rooms lent.
+// kept: `given` goes to `shown`, which chooses a number by it
 fn reply_in(
     head: Head,
     age: Age,
@@ -58,39 +59,30 @@ fn reply_read(reading: Reading, surface: &[i32], path: &[i32], out: &mut [u8]) -
     let mut high = [-1i64; 64];
     let mut low = [LOW_SEVEN; 64];
     let mut points = [-9i32; 64];
-    let head = reading.head;
     let rooms = reading.rooms;
-    let values = reading.surface;
-    let numbers = reading.path;
-    let a = rooms.exact;
-    let b = rooms.points;
     reply_in(
-        head,
+        reading.head,
         Age(reading.age),
         rooms.given,
-        &surface[..values],
-        &path[..numbers],
-        &mut high[..a],
-        &mut low[..a],
-        &mut points[..b],
+        &surface[..reading.surface],
+        &path[..reading.path],
+        &mut high[..rooms.exact],
+        &mut low[..rooms.exact],
+        &mut points[..rooms.points],
         out,
     )
 }
 
-// The answer line of what a line says.
-pub fn reply(line: &[u8], out: &mut [u8]) -> Replied
+// The answer line of what a line says: where it ends in the lent buffer, or where the line is wrong.
+pub fn reply(line: &[u8], out: &mut [u8]) -> Result<usize, Cursor>
     requires { answer_most ≤ length out.old }
     ensures { Replies (spoken line.now) line.now out.old out.new result }
 {
     let mut surface = [0i32; 64];
     let mut path = [0i32; 64];
     let reading = text::read_line(line, &mut surface, &mut path);
-    let cursor = reading.cursor;
-    if cursor.wrong != 0 {
-        return Replied { cursor, end: 0 };
+    if reading.cursor.wrong.is_some() {
+        return Err(reading.cursor);
     }
-    Replied {
-        cursor,
-        end: reply_read(reading, &surface, &path, out),
-    }
+    Ok(reply_read(reading, &surface, &path, out))
 }

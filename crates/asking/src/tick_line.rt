@@ -8,7 +8,7 @@ ghost use Rattle.spell.specs.Decimal.{Written};
 ghost use Rattle.asking.specs.tick_line.Line.{tick_answer, spoken};
 ghost use Rattle.asking.specs.tick_line.Read.{ReadsTick};
 
-use text::kinds::{Replied, read_end};
+use text::kinds::read_end;
 use text::numbers::{number, read_list};
 use text::words::Cursor;
 use tick::{Moment, Tick};
@@ -29,11 +29,10 @@ fn read_tick(line: &[u8], from: Cursor, points: &mut [i32; 64]) -> Reading
 {
     let listed = read_list(line, from, points);
     let moment = number(line, listed.cursor, 0, 4294967295);
-    let cursor = read_end(line, moment.cursor);
     Reading {
-        cursor,
-        count: listed.count,
-        k: moment.size as u32,
+        cursor: read_end(line, moment.cursor),
+        count: listed.value,
+        k: moment.value.size as u32,
     }
 }
 
@@ -51,20 +50,15 @@ fn write_told(told: Tick, out: &mut [u8]) -> usize
 }
 
 // The answer line of a tick line, of which the first word was read.
-pub fn reply(line: &[u8], from: Cursor, out: &mut [u8]) -> Replied
+pub fn reply(line: &[u8], from: Cursor, out: &mut [u8]) -> Result<usize, Cursor>
     requires { Inside line.now from × (length line.now ≤ longest_line) × (answer_most ≤ length out.old) }
     ensures { Replies (spoken line.now from) line.now out.old out.new result }
 {
     let mut points = [0i32; 64];
     let reading = read_tick(line, from, &mut points);
-    let cursor = reading.cursor;
-    if cursor.wrong != 0 {
-        return Replied { cursor, end: 0 };
+    if reading.cursor.wrong.is_some() {
+        return Err(reading.cursor);
     }
-    let count = reading.count;
-    let told = tick::read(&points[..count], Moment(reading.k));
-    Replied {
-        cursor,
-        end: write_told(told, out),
-    }
+    let told = tick::read(&points[..reading.count], Moment(reading.k));
+    Ok(write_told(told, out))
 }

@@ -8,18 +8,12 @@ ghost use Rattle.capped.specs.Capped.{capped};
 pub fn more(n: u64) -> u64
     ensures { result ≡ capped (n + 1) }
 {
-    if n < u64::MAX {
-        return n + 1;
-    }
-    n
+    n.saturating_add(1)
 }
 
 // So many more, up to the greatest number.
 pub fn sum(a: u64, b: u64) -> u64
     ensures { result ≡ capped (a + b) }
 {
-    if b < u64::MAX - a {
-        return a + b;
-    }
-    u64::MAX
+    a.saturating_add(b)
 }

@@ -5,6 +5,7 @@
 ghost use Rattle.std.specs.Prelude.{◌≡◌, false, cond, ◌≤◌, ltb, pos, length, get_or};
 ghost use Rattle.request.specs.units.Bounds.{beyond_path};
 ghost use Rattle.request.specs.Refusal.{value_place};
+ghost use Rattle.request.specs.refusals.Number.{number_of};
 ghost use Rattle.floats.specs.Float.{float};
 ghost use Rattle.part.specs.Part.{head_of, first_of, last_of};
 ghost use Rattle.part.specs.Contract.{five, Carded};
@@ -12,9 +13,11 @@ ghost use Rattle.card.specs.Steps.{Lowered, Blossoms, Filled, Refuses, Answered}
 
 use part::{Card, Part};
 use request::Head;
+use request::refusals::Refusal;
 use request::units::PathNumber;
 
 // The head of the request that a part is: N is 0 for a stay and 1 for a line.
+#[tactic(auto, unfolding(part::specs::Part::head_of, part::specs::Part::path_degree))]
 fn head_of(m: u32, part: Part) -> Head
     ensures { result ≡ head_of m part }
 {
@@ -30,22 +33,14 @@ fn head_of(m: u32, part: Part) -> Head
     }
 }
 
-fn first_of(part: Part) -> f64
-    ensures { result ≡ first_of part }
+// Where a part begins and ends. A stay ends where it begins.
+#[tactic(auto, unfolding(part::specs::Part::first_of, part::specs::Part::last_of))]
+fn ends(part: Part) -> (f64, f64)
+    ensures { (result.0 ≡ first_of part) × (result.1 ≡ last_of part) }
 {
     match part {
-        Part::Stay(u) => u,
-        Part::Line(u, _) => u,
-    }
-}
-
-// A stay ends where it begins.
-fn last_of(part: Part) -> f64
-    ensures { result ≡ last_of part }
-{
-    match part {
-        Part::Stay(u) => u,
-        Part::Line(_, v) => v,
+        Part::Stay(u) => (u, u),
+        Part::Line(u, v) => (u, v),
     }
 }
 
@@ -56,15 +51,17 @@ fn control(surface: &[i32], k: usize) -> f64
     floats::of_travel(request::units::travel_at(surface, k))
 }
 
+#[tactic(auto, unfolding(part::specs::Contract::five))]
 fn loaded(surface: &[i32]) -> [f64; 5]
     ensures { result ≡ five (λ i. float (get_or surface.now i (pos 0))) }
 {
-    let a = control(surface, 0);
-    let b = control(surface, 1);
-    let c = control(surface, 2);
-    let d = control(surface, 3);
-    let e = control(surface, 4);
-    [a, b, c, d, e]
+    [
+        control(surface, 0),
+        control(surface, 1),
+        control(surface, 2),
+        control(surface, 3),
+        control(surface, 4),
+    ]
 }
 
 // One argument makes a net one degree lower.
@@ -73,10 +70,8 @@ fn lower(net: [f64; 5], d: usize, u: f64) -> [f64; 5]
     ensures { Lowered net d u result }
 {
     let mut out = net;
-    let mut i = 0;
-    while i < d {
+    for i in 0..d {
         out[i] = floats::step(net[i], net[i + 1], u);
-        i += 1;
     }
     out
 }
@@ -89,6 +84,7 @@ fn argument(left: usize, R: usize, u: f64, v: f64) -> f64
 }
 
 // The blossom value: `left` arguments are still to be taken.
+// kept: u and v apart, as `Blossoms` and `Filled` in specs/Steps.antt have them
 fn blossom(net: [f64; 5], left: usize, R: usize, u: f64, v: f64) -> f64
     requires { left ≤ 4 }
     ensures { Blossoms net left R u v result }
@@ -106,19 +102,17 @@ fn filled(net: [f64; 5], m: usize, count: usize, u: f64, v: f64) -> [f64; 5]
     ensures { Filled net m count u v result }
 {
     let mut out = [0.0; 5];
-    let mut R = 0;
-    while R < count {
+    for R in 0..count {
         out[R] = blossom(net, m, R, u, v);
-        R += 1;
     }
     out
 }
 
-fn refused(number: u32, place: usize) -> Card
-    ensures { Refuses number place result }
+fn refused(reason: Refusal, place: usize) -> Card
+    ensures { Refuses (number_of reason) place result }
 {
     Card {
-        number,
+        number: reason.into(),
         place,
         count: 0,
         numerators: [0.0; 5],
@@ -148,22 +142,23 @@ pub fn drive(m: u32, surface: &[i32], part: Part) -> Card
 {
     let head = head_of(m, part);
     if request::not_degree(head) {
-        return refused(2, 0);
+        return refused(Refusal::Degree, 0);
     }
     if surface.len() != request::surface_count(head) {
-        return refused(3, 0);
+        return refused(Refusal::Surface, 0);
     }
     let value = judge::value_place(surface);
     if value < surface.len() {
-        return refused(6, value);
+        return refused(Refusal::Value, value);
     }
-    let x = floats::path_number(first_of(part));
+    let (first, last) = ends(part);
+    let x = floats::path_number(first);
     if request::units::beyond_path(x) {
-        return refused(7, 0);
+        return refused(Refusal::Parameter, 0);
     }
-    let y = floats::path_number(last_of(part));
+    let y = floats::path_number(last);
     if request::units::beyond_path(y) {
-        return refused(7, 1);
+        return refused(Refusal::Parameter, 1);
     }
     answered(surface, m as usize, judge::place_count(head), x, y)
 }

@@ -63,6 +63,7 @@ fn judged(
 // Composes a surface and a path, on a tilt sample of the given age. The answer is a number, a place and a count: 0, 0, L+1
 // where the request is accepted, and then the first L+1 places of the three arrays are written; else the refusal's number and
 // place and count 0, and all three are as they were.
+// kept: the C interface: three arrays are lent, and the clause names each.
 pub fn compose(
     head: Head,
     age: Age,
@@ -77,7 +78,7 @@ pub fn compose(
         (arrays high.new low.new points.new) }
 {
     let answer = judged(head, age, surface, path, high, low, points);
-    if answer.number != 0 {
+    if answer.is_refused() {
         return refused(answer);
     }
     let mut sums = [0i64; 50];

@@ -8,30 +8,6 @@ ghost use Rattle.compose.specs.writing.Placed.{PointAt, PointsAt, Enough, Put, W
 
 use request::units::Travel;
 use two_words::Words;
-use whole::Num;
-
-fn put_high(high: &mut [i64], R: usize, x: Num)
-    requires { R < length high.old }
-    ensures { high.new ≡ set high.old R x.0 }
-{
-    let v = x.0;
-    high[R] = v;
-}
-
-fn put_low(low: &mut [u64], R: usize, x: u64)
-    requires { R < length low.old }
-    ensures { low.new ≡ set low.old R x }
-{
-    low[R] = x;
-}
-
-fn put_point(points: &mut [i32], R: usize, t: Travel)
-    requires { R < length points.old }
-    ensures { points.new ≡ set points.old R t.0 }
-{
-    let v = t.0;
-    points[R] = v;
-}
 
 // The rounded point at R of a curve of degree L whose numerator there, n, is over binomial(L, R)·1024^r.
 fn rounded(n: Words, L: usize, r: usize, R: usize) -> Travel
@@ -58,9 +34,9 @@ fn write_place(
         (arrays high.new low.new points.new) }
 {
     let n = two_words::joined(sums, R);
-    put_high(high, R, n.high);
-    put_low(low, R, n.low);
-    put_point(points, R, rounded(n, count - 1, r, R));
+    high[R] = n.high.0;
+    low[R] = n.low;
+    points[R] = rounded(n, count - 1, r, R).0;
 }
 
 // Writes the first `count` places of each array.
@@ -77,9 +53,7 @@ pub fn write_all(
         (arrays high.old low.old points.old)
         (arrays high.new low.new points.new) }
 {
-    let mut R = 0;
-    while R < count {
+    for R in 0..count {
         write_place(sums, count, r, R, high, low, points);
-        R += 1;
     }
 }

@@ -4,11 +4,12 @@
 
 mod night;
 
-use files::program;
+use files::program::names;
+use files::told;
 use std::rt::HostRuntime;
 
 fn main(rt: HostRuntime) {
-    let named = program::names(
+    let named = names(
         rt,
         b"convert",
         b"usage: convert [--progress] IN OUT\n\
@@ -29,7 +30,7 @@ fn main(rt: HostRuntime) {
         2,
         2,
     );
-    if named.go {
-        files::told::verdict(night::convert(rt, named.first, named.second, named.progress));
+    if let Some(named) = named {
+        told::verdict(night::convert(rt, named));
     }
 }

@@ -1,164 +1,112 @@
 // One night: looked through, converted into a file beside OUT, and that file given its name.
 use files::output::Output;
-use files::{output, told};
-use std::fs::File;
+use files::program::Named;
+use files::{Input, Verdict, output, told};
+use renewal::Outcome;
 use std::rt::HostRuntime;
-use streams::{Source, Stream};
+use streams::Stream;
 
-fn trouble(what: &[u8]) -> u64 {
+fn trouble(what: &[u8]) -> Verdict {
     told::trouble(b"convert", what);
-    2
+    Verdict::Trouble
 }
 
-fn say(words: &[u8]) -> u64 {
+fn say(words: &[u8]) -> Verdict {
     told::say(b"convert: ");
     told::say(words);
-    2
+    Verdict::Trouble
 }
 
 // The line that is printed, and the verdict.
-fn print(refused: bool, changed: u64, to: Stream, status: u64) -> u64 {
+fn print(refused: bool, changed: u64, to: Stream, verdict: Verdict) -> Verdict {
     let out = renewal::print(refused, changed, to);
-    told::written(b"convert", out, status)
+    told::written(b"convert", out, verdict)
 }
 
 // Whether a night is another when it is read again.
-fn differs(seen: renewal::Looked, again: renewal::Renewed) -> bool {
-    if again.refused {
-        return true;
-    }
-    if seen.changed != again.changed {
-        return true;
-    }
-    let first = seen.input;
-    let second = again.input;
-    first.count != second.count
+fn differs(seen: Outcome, again: Outcome) -> bool {
+    again.refused || seen.changed != again.changed || seen.input.count != again.input.count
 }
 
-// Converts what comes from an input, which was looked through before, into the output `out`, whose file stands beside its name.
-fn write_beside(
-    rt: HostRuntime,
-    seen: renewal::Looked,
-    input: Stream,
-    source: &Source,
-    from: &[u8],
-    out: Stream,
-    file: Option<File>,
+// Converts what comes from an input, which was looked through before, into an output of this name.
+fn write_output(
+    seen: Outcome,
+    input: &Input,
+    output: Output,
     to: &[u8],
-    beside: &[u8],
-    wanted: bool,
-) -> u64 {
-    let progress = progress::begin(wanted, source);
-    let renewed = renewal::renew(input, source, out, progress);
-    let read = renewed.input;
-    let written = renewed.out;
-    if read.failed {
-        let status = trouble(from);
-        output::abandon(rt, file, beside);
-        return status;
+    progress: bool,
+) -> Verdict {
+    let renewed = renewal::renew(
+        input.stream,
+        &input.source,
+        output.stream,
+        progress::begin(progress, &input.source),
+    );
+    if renewed.input.failed {
+        let verdict = trouble(input.name);
+        output.abandon();
+        return verdict;
     }
     if differs(seen, renewed) {
-        output::abandon(rt, file, beside);
+        output.abandon();
         return say(b"IN is another when it is read again; OUT is as it was\n");
     }
-    if !output::finish(rt, written, file, to, beside) {
+    if !output.finish(renewed.out) {
         return trouble(to);
     }
-    print(false, renewed.changed, seen.out, 0)
+    print(false, renewed.changed, seen.out, Verdict::Well)
 }
 
 // The same, where OUT can be written.
-fn write_out(
-    rt: HostRuntime,
-    seen: renewal::Looked,
-    input: Stream,
-    source: &Source,
-    from: &[u8],
-    to: &[u8],
-    wanted: bool,
-) -> u64 {
-    if output::is_input(rt, input, to) {
+fn write_to(rt: HostRuntime, seen: Outcome, input: &Input, to: &[u8], progress: bool) -> Verdict {
+    if output::is_input(rt, input.stream, to) {
         return say(b"OUT is IN itself, which stays as it is\n");
     }
-    let mut beside = io::buffer();
-    let Output {
-        stream: out,
-        file,
-        beside: n,
-    } = output::begin(rt, to, &mut beside);
-    if out.failed {
+    let mut room = io::buffer();
+    let output = output::begin(rt, to, &mut room);
+    if output.stream.failed {
         return trouble(to);
     }
-    write_beside(
-        rt,
-        seen,
-        input,
-        source,
-        from,
-        out,
-        file,
-        to,
-        &beside[..n],
-        wanted,
-    )
+    write_output(seen, input, output, to, progress)
 }
 
 // Opens IN again.
-fn write_again(
-    rt: HostRuntime,
-    seen: renewal::Looked,
-    file: usize,
-    second: usize,
-    wanted: bool,
-) -> u64 {
+fn write_again(rt: HostRuntime, seen: Outcome, named: Named) -> Verdict {
     let mut from = io::buffer();
     let mut to = io::buffer();
-    let Some(n) = files::argument(rt, second, &mut to) else {
+    let Some(n) = files::argument(rt, named.second.unwrap_or(0), &mut to) else {
         return trouble(b"OUT");
     };
-    let input = files::open(rt, file, &mut from);
-    let m = input.size;
-    let stream = input.stream;
-    if stream.failed {
-        return trouble(&from[..m]);
+    let input = files::open(rt, named.first, &mut from);
+    if input.stream.failed {
+        return trouble(input.name);
     }
-    let status = write_out(
-        rt,
-        seen,
-        stream,
-        &input.source,
-        &from[..m],
-        &to[..n],
-        wanted,
-    );
+    let verdict = write_to(rt, seen, &input, &to[..n], named.progress);
     files::close(input.source);
-    status
+    verdict
 }
 
-// Looks through IN, which argument `first` names; where it can be converted, OUT is written, which argument `second` names.
-pub fn convert(rt: HostRuntime, first: usize, second: usize, wanted: bool) -> u64 {
-    let mut from = io::buffer();
-    let input = files::open(rt, first, &mut from);
-    let m = input.size;
-    let stream = input.stream;
-    if stream.failed {
-        return trouble(&from[..m]);
+// Looks through IN, which is the first name; where it can be converted, OUT is written, which is the second.
+pub fn convert(rt: HostRuntime, named: Named) -> Verdict {
+    let mut room = io::buffer();
+    let input = files::open(rt, named.first, &mut room);
+    if input.stream.failed {
+        return trouble(input.name);
     }
     let seen = renewal::look(
-        stream,
+        input.stream,
         &input.source,
         streams::standard_output(),
-        progress::begin(wanted, &input.source),
+        progress::begin(named.progress, &input.source),
     );
-    let read = seen.input;
-    if read.failed {
-        let status = trouble(&from[..m]);
+    if seen.input.failed {
+        let verdict = trouble(input.name);
         files::close(input.source);
-        return status;
+        return verdict;
     }
     files::close(input.source);
     if seen.refused {
-        return print(true, seen.changed, seen.out, 1);
+        return print(true, seen.changed, seen.out, Verdict::Differs);
     }
-    write_again(rt, seen, first, second, wanted)
+    write_again(rt, seen, named)
 }

@@ -1,14 +1,12 @@
 // The daily sheet of a trace that is fed as it comes (rule Daily sheet; 02, ticket 12): a state by value that takes the trace in
 // parts, cut anywhere, some without a byte. How a trace is cut and read is crates pairs' and feed's, what a reply adds is crate
 // sheets'. No function that is public asks anything of its caller.
-ghost use Rattle.std.specs.Prelude.{◌≡◌, ◌≤◌, length};
+ghost use Rattle.std.specs.Prelude.{◌≡◌};
 ghost use Rattle.pairs.specs.Cut.{longest_record};
-ghost use Rattle.feed.specs.Feed.{given};
 ghost use Rattle.day.specs.sheets.Sheet.{no_span, sheet_in};
-ghost use Rattle.day.specs.sheets.Fold.{adds};
 ghost use Rattle.day.specs.daily.Read.{blank_state, after_part};
 
-use crate::sheets::{Sheet, Span};
+use crate::sheets::{Sheet, Span, with_pair};
 
 // The bytes of the pair that is not whole yet, with zeros behind them; how many bytes there are from its start on; and the sheet of
 // the pairs before it.
@@ -17,17 +15,6 @@ pub struct State {
     pub held: [u8; 256],
     pub rest: u64,
     pub sheet: Sheet,
-}
-
-// One pair more, where one of `size` bytes was handed on.
-fn gather(sheet: Sheet, held: &[u8], size: usize) -> Sheet
-    requires { size ≤ length held.now }
-    ensures { result ≡ given adds sheet held.now size }
-{
-    if size == 0 {
-        return sheet;
-    }
-    crate::sheets::with_pair(sheet, &held[..size])
 }
 
 // The span of no points.
@@ -57,20 +44,12 @@ pub fn new() -> State
 }
 
 // The next part, of any length.
+// kept: its type is C's state of the sheet (`lean_sheet`), and the replay's is another; what both do is `feed::take`
 pub fn take(state: State, part: &[u8]) -> State
     ensures { result ≡ after_part state part.now }
 {
     let mut held = state.held;
-    let mut rest = state.rest;
-    let mut sheet = state.sheet;
-    let mut i = 0;
-    while i < part.len() {
-        let turn = feed::next(pairs::LONGEST, &mut held, rest, &part[i..]);
-        sheet = gather(sheet, &held, turn.size);
-        rest = turn.rest;
-        i += turn.bytes;
-    }
-    feed::settle(&mut held, rest);
+    let (rest, sheet) = feed::take(&mut held, state.rest, state.sheet, part, with_pair);
     State { held, rest, sheet }
 }
 
@@ -78,6 +57,5 @@ pub fn take(state: State, part: &[u8]) -> State
 pub fn sheet_of(bytes: &[u8]) -> Sheet
     ensures { result ≡ sheet_in longest_record bytes.now }
 {
-    let state = take(new(), bytes);
-    state.sheet
+    take(new(), bytes).sheet
 }

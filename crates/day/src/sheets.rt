@@ -1,11 +1,10 @@
 // The daily sheet of a recorded trace (rule Daily sheet; 02, ticket 12): its types, by value, and what one reply more adds
 // to it. What a sheet is stands in specs/Sheet.antt. No function that is public asks anything of its caller.
 ghost use Rattle.std.specs.Prelude.{◌≡◌, not, ◌&&◌, ◌≤◌, eqb};
-ghost use Rattle.std.specs.Int.Signed.{lt_z};
 ghost use Rattle.wire.specs.Words.{number_at};
 ghost use Rattle.wire.specs.Start.{start};
 ghost use Rattle.pairs.specs.Cut.{pair_in};
-ghost use Rattle.day.specs.sheets.Sheet.{is_odd, points_in, lesser as lesser_of, greater as greater_of, widened, widened_all};
+ghost use Rattle.day.specs.sheets.Sheet.{is_odd, points_in, widened, widened_all};
 ghost use Rattle.day.specs.sheets.Fold.{counted_up, with_reply, adds};
 
 use whole::Num;
@@ -13,6 +12,7 @@ use whole::Num;
 // The least and the most of accepted points, where there are any.
 #[derive(Clone, Copy)]
 pub struct Span {
+    // kept: C keeps the flag and the two numbers in arrays of its own (`lean_sheet`), whatever they hold, and gets them back
     pub some: bool,
     pub least: i64,
     pub most: i64,
@@ -30,66 +30,23 @@ pub struct Sheet {
 fn counts_refused(number: u64, count: u64) -> bool
     ensures { result ≡ (not (eqb number 0) && not (eqb count 0)) }
 {
-    if number == 0 {
-        return false;
-    }
-    count != 0
+    number != 0 && count != 0
 }
 
+#[tactic(auto, unfolding(crate::specs::sheets::Sheet::is_odd, wire::specs::Start::kind_field))]
 fn is_odd(reply: &[u8]) -> bool
     ensures { result ≡ is_odd reply.now }
 {
-    if wire::word_at(reply, 2) != 0x8001 {
-        return true;
-    }
     let number = wire::byte_at(reply, 4);
-    if 10 < number {
-        return true;
-    }
     let count = wire::byte_at(reply, 6);
-    if reply.len() != 8 + 2 * (count as usize) {
-        return true;
-    }
-    counts_refused(number, count)
-}
-
-fn less(a: Num, b: Num) -> bool
-    ensures { result ≡ lt_z a.0 b.0 }
-{
-    a.0 < b.0
-}
-
-fn lesser(a: Num, b: Num) -> Num
-    ensures { result.0 ≡ lesser_of a.0 b.0 }
-{
-    if less(b, a) {
-        return b;
-    }
-    a
-}
-
-fn greater(a: Num, b: Num) -> Num
-    ensures { result.0 ≡ greater_of a.0 b.0 }
-{
-    if less(a, b) {
-        return b;
-    }
-    a
-}
-
-fn least_of(span: Span) -> Num
-    ensures { result.0 ≡ span.least }
-{
-    Num(span.least)
-}
-
-fn most_of(span: Span) -> Num
-    ensures { result.0 ≡ span.most }
-{
-    Num(span.most)
+    wire::word_at(reply, 2) != 0x8001
+        || 10 < number
+        || reply.len() != 8 + 2 * (count as usize)
+        || counts_refused(number, count)
 }
 
 // One point more.
+#[tactic(auto, unfolding(crate::specs::sheets::Sheet::widened, crate::specs::sheets::Sheet::lesser, crate::specs::sheets::Sheet::greater))]
 fn widen(span: Span, z: Num) -> Span
     ensures { result ≡ widened span z.0 }
 {
@@ -100,12 +57,10 @@ fn widen(span: Span, z: Num) -> Span
             most: z.0,
         };
     }
-    let least = lesser(least_of(span), z);
-    let most = greater(most_of(span), z);
     Span {
         some: true,
-        least: least.0,
-        most: most.0,
+        least: span.least.min(z.0),
+        most: span.most.max(z.0),
     }
 }
 
@@ -122,14 +77,13 @@ fn widen_all(span: Span, reply: &[u8]) -> Span
 {
     let count = wire::byte_at(reply, 6) as usize;
     let mut next = span;
-    let mut k = 0;
-    while k < count {
+    for k in 0..count {
         next = widen(next, point_at(reply, k));
-        k += 1;
     }
     next
 }
 
+#[tactic(auto, unfolding(crate::specs::sheets::Fold::counted_up))]
 fn count_up(counts: &mut [u64; 11], n: usize)
     ensures { counts.new ≡ counted_up counts.old n }
 {
@@ -142,20 +96,18 @@ fn count_up(counts: &mut [u64; 11], n: usize)
 fn with_reply(sheet: Sheet, reply: &[u8]) -> Sheet
     ensures { result ≡ with_reply sheet reply.now }
 {
-    let mut refusals = sheet.refusals;
-    let span = sheet.span;
     if is_odd(reply) {
         return Sheet {
             odd: capped::more(sheet.odd),
-            refusals,
-            span,
+            ..sheet
         };
     }
+    let mut refusals = sheet.refusals;
     count_up(&mut refusals, wire::byte_at(reply, 4) as usize);
     Sheet {
-        odd: sheet.odd,
         refusals,
-        span: widen_all(span, reply),
+        span: widen_all(sheet.span, reply),
+        ..sheet
     }
 }
 

@@ -14,28 +14,16 @@ ghost use Rattle.door.specs.Given.{Readable, Given};
 
 use request::units::Age;
 use request::{Answer, Head};
-use whole::Num;
-
 // As many control values as the greatest degrees ask for.
 const MOST_VALUES: usize = 15;
-
-fn put_number(numbers: &mut [i32], k: usize, n: Num)
-    requires { (k < length numbers.old) × Short n.0 }
-    ensures { numbers.new ≡ set numbers.old k n.0 }
-{
-    let v = n.0 as i32;
-    numbers[k] = v;
-}
 
 // Reads `count` numbers that begin at byte `from` into the first places of `numbers`.
 fn read_numbers(bytes: &[u8], from: usize, count: usize, numbers: &mut [i32])
     requires { (count ≤ length numbers.old) × (from + 2 * count ≤ length bytes.now) }
     ensures { numbers.new ≡ afterwards count (number_at bytes.now from) numbers.old }
 {
-    let mut k = 0;
-    while k < count {
-        put_number(numbers, k, wire::number_at(bytes, from + 2 * k));
-        k += 1;
+    for k in 0..count {
+        numbers[k] = wire::number_at(bytes, from + 2 * k).0 as i32;
     }
 }
 
@@ -70,7 +58,7 @@ fn judge_record(request: &[u8], points: &mut [i32]) -> Answer
     ensures { Given request.now (judged request.now) points.old result points.new }
 {
     let opened = judgement::open_record(request);
-    if opened.refusal.number != 0 {
+    if opened.refusal.is_refused() {
         return opened.refusal;
     }
     compose_in(request, opened.from, opened.head, opened.age, points)

@@ -1,13 +1,12 @@
 // The five numbers of a recorded night: a reader by value that takes the trace in parts, cut anywhere. How a trace is cut and read is
 // crates pairs' and feed's, the numbers are crate fives'; of the door only its promise is known here. No function that is
 // public asks anything of its caller.
-ghost use Rattle.std.specs.Prelude.{◌≡◌, ◌≤◌, ◌<◌, length};
+ghost use Rattle.std.specs.Prelude.{◌≡◌};
 ghost use Rattle.door.specs.Contract.{reply_of};
 ghost use Rattle.pairs.specs.Cut.{pair_in};
-ghost use Rattle.feed.specs.Feed.{given};
 ghost use Rattle.fives.specs.Replay.{same_bytes, agrees};
 ghost use Rattle.fives.specs.Count.{counts, no_pairs};
-ghost use Rattle.door.specs.tally.Read.{Turned, blank_reader, after_part, five_in, replayed};
+ghost use Rattle.door.specs.tally.Read.{blank_reader, after_part, five_in, replayed};
 
 use fives::{Five, Tally};
 
@@ -18,15 +17,6 @@ pub struct Reader {
     pub held: [u8; 256],
     pub rest: u64,
     pub tally: Tally,
-}
-
-// Behind a turn of reading a part: how many bytes there are from the start of the pair on that is not whole yet, the numbers of the
-// pairs before it, and how many bytes of the part were taken.
-#[derive(Clone, Copy)]
-struct Turn {
-    rest: u64,
-    tally: Tally,
-    bytes: usize,
 }
 
 // The door asked afresh gives this reply, byte for byte.
@@ -47,28 +37,11 @@ pub fn agree(pair: &[u8]) -> bool
     is_today(request, reply)
 }
 
-// One pair more, where one of `size` bytes was handed on.
-fn gather(tally: Tally, held: &[u8], size: usize) -> Tally
-    requires { size ≤ length held.now }
-    ensures { result ≡ given (counts reply_of) tally held.now size }
+// One pair more, whose bytes are these.
+fn count(tally: Tally, pair: &[u8]) -> Tally
+    ensures { result ≡ counts reply_of tally (pair_in pair.now) }
 {
-    if size == 0 {
-        return tally;
-    }
-    fives::count_pair(tally, agree(&held[..size]))
-}
-
-// A turn of reading a part that has a byte: the pair that it makes whole is counted.
-fn take_turn(held: &mut [u8; 256], rest: u64, tally: Tally, part: &[u8]) -> Turn
-    requires { 0 < length part.now }
-    ensures { Turned held.old rest tally part.now held.new result }
-{
-    let handed = feed::next(pairs::LONGEST, held, rest, part);
-    Turn {
-        rest: handed.rest,
-        tally: gather(tally, held, handed.size),
-        bytes: handed.bytes,
-    }
+    fives::count_pair(tally, agree(pair))
 }
 
 // The numbers of no pair.
@@ -87,29 +60,20 @@ fn no_pairs() -> Tally
 pub fn new() -> Reader
     ensures { result ≡ blank_reader }
 {
-    let tally = no_pairs();
     Reader {
         held: [0u8; 256],
         rest: 0,
-        tally,
+        tally: no_pairs(),
     }
 }
 
 // The next part, of any length.
+// kept: its type is C's reader (`lean_replay`), and the sheet's is another; what both do is `feed::take`
 pub fn take(reader: Reader, part: &[u8]) -> Reader
     ensures { result ≡ after_part reader part.now }
 {
     let mut held = reader.held;
-    let mut rest = reader.rest;
-    let mut tally = reader.tally;
-    let mut i = 0;
-    while i < part.len() {
-        let turn = take_turn(&mut held, rest, tally, &part[i..]);
-        rest = turn.rest;
-        tally = turn.tally;
-        i += turn.bytes;
-    }
-    feed::settle(&mut held, rest);
+    let (rest, tally) = feed::take(&mut held, reader.rest, reader.tally, part, count);
     Reader { held, rest, tally }
 }
 

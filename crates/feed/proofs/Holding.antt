@@ -1,21 +1,19 @@
 -- Laws of the array that holds a pair that is not whole yet: what a byte does to it, and zeros behind what is kept.
 -- Assumes nothing.
 use mathlib.Core.Path.{◌≡◌, refl, sym, ◌∙◌}
-use mathlib.Core.Bool.{true, false, not}
-use mathlib.Core.List.{List, [], ◌∷◌, ◌++◌, append_assoc, append-nil}
-use Prim.Native.Nat.{ℕ, suc, ◌+◌, ◌-◌, ◌≤◌, ◌<◌}
-use native.Mathlib.Numerals.{add-one}
+use mathlib.Core.Bool.{Bool, true, false, not}
+use mathlib.Core.List.{List, [], ◌∷◌, ◌++◌, append-nil}
+use Prim.Native.Nat.{ℕ, ◌+◌, ◌-◌, ◌≤◌, ◌<◌, min}
 use native.Mathlib.Omega.{arith}
-use lib.Dec.{eqb}
-use lib.ListN.{length, take, drop, get_or, set, length-append, length-replicate, drop_of_length-le, take-append-drop}
-use lib.ListN.{replicate-append-replicate}
-use lib.Seq.{length-take-le, take-suc, drop-cons, set_at, set_out}
-use borrow.Author.Tests.{le-ltb, lt-ltb, le-leb, lt-leb, eq-eqb, ne_eqb}
+use lib.Dec.{leb, eqb}
+use lib.ListN.{length, take, drop, get_or, set, length-take, length-drop, drop_of_length-le}
+use lib.Seq.{take_all, set_out}
+use borrow.Author.Tests.{le-ltb, lt-ltb, le-leb, lt-leb, leb-true, leb-false, eq-eqb, ne_eqb}
 use Rattle.pairs.specs.Cut.{pair_size}
 use Rattle.pairs.proofs.Leaves.{starts_is}
 use Rattle.feed.specs.declared.Turn.{Turn}
 use Rattle.feed.specs.declared.Handed.{Handed}
-use Rattle.feed.specs.Feed.{capped, held_room, zeros, ahead, Puts, after_byte, after_pair, after_turn, Leaves}
+use Rattle.feed.specs.Feed.{capped, held_room, zeros, held_of, ahead, Puts, after_byte, after_pair, after_turn, Leaves}
 
 -- what lies ahead: nothing where a pair has begun, or where it is more than is kept
 module _ (most rest : ℕ) (part : List ℕ) where
@@ -77,48 +75,24 @@ module _ (most : ℕ) (held : List ℕ) (rest : ℕ) where
   turn-pair (b ∷ part) some other l = rw (ne_eqb (ahead most rest (b ∷ part)) 0 other) l
 
 -- the pair that lies ahead is copied to the front
-pub pair-copied : (held part held' : List ℕ) (n m : ℕ) → n ≡ m → n ≤ length part
-    → held' ≡ take n part ++ drop (length (take n part)) held
-    → Leaves (after_pair held part m) held' (record { rest = 0; size = n; bytes = n })
+pub pair-copied : (held part bytes : List ℕ) (n m : ℕ) → n ≡ m → bytes ≡ take n part
+    → Leaves (after_pair held part m) (bytes ++ drop n held) (record { rest = 0; size = n; bytes = n })
 unfolding after_pair
-pair-copied held part held' n m e l at = record {
-  held_is = rw (← e) (rw (length-take-le n part l) at at);
-  handed_is = rw (← e);
-}
+pair-copied held part bytes n m e copied = record { held_is = rw (copied, ← e); handed_is = rw (← e) }
 
--- a loop that copies: the bytes so far, and what still stands behind them
-module _ (bytes held : List ℕ) where
-  pub copy-next : (i : ℕ) → i < length bytes → length bytes ≤ length held
-      → set (take i bytes ++ drop i held) i (get_or bytes i 0) ≡ take (i + 1) bytes ++ drop (i + 1) held
-  copy-next i m l =
-      let size : length (take i bytes) ≡ i = length-take-le i bytes (omega arith) in
-      let stood : drop i held ≡ get_or held i 0 ∷ drop (suc i) held = drop-cons held i 0 (omega arith) in
-      rw (stood, set_at (take i bytes) (get_or held i 0) (drop (suc i) held) (get_or bytes i 0) i size, add-one, take-suc bytes i 0 m)
-      (simp append_assoc)
-
--- a loop that clears: the front, the zeros so far, and what still stands
-unfoldable pub cleared : List ℕ → ℕ → ℕ → List ℕ
-cleared l from i = take from l ++ (zeros (i - from) ++ drop i l)
-
-module _ (l : List ℕ) (from : ℕ) where
-  pub clear-start : l ≡ cleared l from from
-  unfolding cleared
-  clear-start = let z : from - from ≡ 0 = omega arith in rw z (sym (take-append-drop from l))
-
-  pub clear_next : (i : ℕ) → from ≤ i → i < length l → set (cleared l from i) i 0 ≡ cleared l from (i + 1)
-  unfolding cleared
-  clear_next i f m =
-      let front = take from l ++ zeros (i - from) in
-      let size : length front ≡ i = rw (length-append, length-take-le from l (omega arith), length-replicate) (omega arith) in
-      let stood : cleared l from i ≡ front ++ get_or l i 0 ∷ drop (suc i) l = rw (drop-cons l i 0 m, append_assoc) in
-      let more : zeros (i + 1 - from) ≡ zeros (i - from) ++ 0 ∷ [] = one_more (i + 1 - from) (i - from) (omega arith) in
-      rw (stood, set_at front (get_or l i 0) (drop (suc i) l) 0 i size, more, add-one) (simp append_assoc)
-    where
-      one_more : (n m : ℕ) → n ≡ m + 1 → zeros n ≡ zeros m ++ 0 ∷ []
-      one_more n m e = rw e (sym (replicate-append-replicate m 1 0))
-
-  pub clear-end : (i : ℕ) → length l ≤ i → i - from ≤ length l - from → cleared l from i ≡ take from l ++ zeros (length l - from)
-  unfolding cleared
-  clear-end i m n =
-      let e : i - from ≡ length l - from = omega arith in
-      rw (e, drop_of_length-le l m, append-nil)
+-- zeros from the end of what is kept on
+pub settled : (held filled : List ℕ) (rest m : ℕ) → length held ≡ held_room → m ≡ min held_room rest
+    → filled ≡ zeros (length (take (held_room - m) (drop m held))) → take m held ++ (filled ++ drop (held_room - m) (drop m held)) ≡ held_of (take rest held)
+unfolding held_of
+settled held filled rest m room is cleared =
+    let kept : take m held ≡ take rest held = by (leb held_room rest) refl in
+    let size : length (take (held_room - m) (drop m held)) ≡ held_room - length (take rest held) =
+    rw (← kept) (simp (length-take, length-drop) (omega arith)) in
+    let none : drop (held_room - m) (drop m held) ≡ [] = drop_of_length-le (drop m held) (rw length-drop (omega arith)) in
+    rw (none, append-nil, cleared, size, kept)
+  where
+    by : (t : Bool) → leb held_room rest ≡ t → take m held ≡ take rest held
+    by true l =
+        let past : held_room ≤ rest = leb-true held_room rest l in
+        take_all m held (omega arith) ∙ sym (take_all rest held (omega arith))
+    by false l = let at : m ≡ rest = omega (arith, leb-false held_room rest l) in rw at

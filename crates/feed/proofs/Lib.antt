@@ -4,3 +4,4 @@ pub mod Holding
 pub mod Reading
 pub mod Readers
 pub mod Promises
+pub mod Taking

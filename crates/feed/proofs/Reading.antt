@@ -273,7 +273,7 @@ module _ {A : Type 0} {most : ℕ} (small : most ≤ 128) (add : A → Pair → 
       rw (l.held_is, l.handed_is, some, front)
       (record { some = p; within = one.alone.inside; fed_is = rw one.begun (sym once) })
 
-  turned : (part : List ℕ) {held' : List ℕ} {r : Handed} → 0 < length part → Hands most held rest part held' r
+  pub turned : (part : List ℕ) {held' : List ℕ} {r : Handed} → 0 < length part → Hands most held rest part held' r
       → Turns most add a held rest part held' r
   unfolding after_turn
   turned [] some h = absurd (omega arith)

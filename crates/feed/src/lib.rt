@@ -1,14 +1,16 @@
 // Reading a trace in parts, for any fold of its pairs: a byte more of a pair that is not whole yet, which is held in a lent array. No
-// function asks anything of its caller.
+// function asks anything of its caller, but `take` that what adds a pair may be called.
 #![tactic(auto)]
 
-ghost use Rattle.std.specs.Prelude.{◌≡◌, ◌++◌, ◌-◌, ◌≤◌, length, take, drop};
-ghost use Rattle.feed.specs.Feed.{zeros, held_of, Puts, Leaves, Hands, after_byte, ahead as ahead_of};
+ghost use Rattle.std.specs.Prelude.{◌≡◌, take};
+ghost use Rattle.feed.specs.Feed.{held_of, Puts, Leaves, Hands, after_byte, ahead as ahead_of};
+ghost use Rattle.feed.specs.Takes.{Adds, Takes};
 
 // What a byte did: how many bytes there are from the pair's start on, and whether they are a whole pair.
 #[derive(Clone, Copy)]
 pub struct Turn {
     pub rest: u64,
+    // kept: `Puts` and `put-determined` read the number of bytes whether they are whole or not
     pub whole: bool,
 }
 
@@ -17,6 +19,7 @@ pub struct Turn {
 #[derive(Clone, Copy)]
 pub struct Handed {
     pub rest: u64,
+    // kept: 0 for none, as `Hands`, which `next` promises, and the law `turned` have it
     pub size: usize,
     pub bytes: usize,
 }
@@ -25,6 +28,7 @@ pub struct Handed {
 const HELD: usize = 256;
 
 // A byte more.
+// kept: the array is lent, with the number of bytes beside it, as `Puts` and the state in C have them
 fn put(most: usize, held: &mut [u8], rest: u64, b: u8) -> Turn
     ensures { Puts most held.old rest b held.new result }
 {
@@ -45,6 +49,7 @@ fn put(most: usize, held: &mut [u8], rest: u64, b: u8) -> Turn
 }
 
 // The same as a turn: a pair that is whole is handed on.
+// kept: the array and the number beside it, as in `put`
 fn step(most: usize, held: &mut [u8], rest: u64, b: u8) -> Handed
     ensures { Leaves (after_byte most held.old rest b) held.new result }
 {
@@ -77,24 +82,12 @@ fn ahead(most: usize, rest: u64, part: &[u8]) -> usize
     n
 }
 
-// All of `bytes` to the front of the array.
-fn copy(held: &mut [u8], bytes: &[u8])
-    requires { length bytes.now ≤ length held.old }
-    ensures { held.new ≡ bytes.now ++ drop (length bytes.now) held.old }
-{
-    let mut i = 0;
-    while i < bytes.len() {
-        held[i] = bytes[i];
-        i += 1;
-    }
-}
-
 // A turn of reading a part: it hands on the whole pair that lies ahead, or takes one byte. A pair that is handed on stands at the
 // front of the array.
 pub fn next(most: usize, held: &mut [u8; 256], rest: u64, part: &[u8]) -> Handed
     ensures { Hands most held.old rest part.now held.new result }
 {
-    if part.len() == 0 {
+    if part.is_empty() {
         return Handed {
             rest,
             size: 0,
@@ -102,10 +95,11 @@ pub fn next(most: usize, held: &mut [u8; 256], rest: u64, part: &[u8]) -> Handed
         };
     }
     let n = ahead(most, rest, part);
+    // kept: 0 for none, as the definition `ahead` behind `Hands` has it
     if n == 0 {
         return step(most, held, rest, part[0]);
     }
-    copy(held, &part[..n]);
+    held[..n].copy_from_slice(&part[..n]);
     Handed {
         rest: 0,
         size: n,
@@ -113,20 +107,38 @@ pub fn next(most: usize, held: &mut [u8; 256], rest: u64, part: &[u8]) -> Handed
     }
 }
 
-// Zeros from a place on.
-fn clear(held: &mut [u8], rest: u64)
-    ensures { held.new ≡ take rest held.old ++ zeros (length held.old - rest) }
-{
-    let mut i = rest as usize;
-    while i < held.len() {
-        held[i] = 0;
-        i += 1;
-    }
-}
-
 // Zeros behind the bytes that are kept, so that what is held is what was read and nothing else.
 pub fn settle(held: &mut [u8; 256], rest: u64)
     ensures { held.new ≡ held_of (take rest held.old) }
 {
-    clear(held, rest);
+    held[HELD.min(rest as usize)..].fill(0);
+}
+
+// What a part adds to a state: each pair that it makes whole is added, one after the other. What has begun of the next one is kept at the
+// front of the array, with zeros behind it; how many bytes it has is handed back, and the state.
+pub fn take<S: Copy, F: Fn(S, &[u8]) -> S>(
+    held: &mut [u8; 256],
+    rest: u64,
+    state: S,
+    part: &[u8],
+    add: F,
+) -> (u64, S)
+    requires { F.IsAlwaysCallable add }
+    ensures { Takes (Adds F.Fn add) held.old rest state part.now held.new result.0 result.1 }
+{
+    let mut rest = rest;
+    let mut state = state;
+    let mut left = part;
+    // kept: a turn says itself how many bytes it takes, so that there is nothing to count
+    while !left.is_empty() {
+        let turn = next(pairs::LONGEST, held, rest, left);
+        // kept: 0 for none, in `Hands`
+        if turn.size != 0 {
+            state = add(state, &held[..turn.size]);
+        }
+        rest = turn.rest;
+        left = &left[turn.bytes..];
+    }
+    settle(held, rest);
+    (rest, state)
 }

@@ -1,7 +1,7 @@
 // A file that is made whole or not at all: a file beside it is written, brought to the disk and given its name; where something
 // fails, the file beside it is removed and what stood under the name stays. What stands there and cannot be brought to a disk,
 // as a terminal or a pipe, is written itself.
-ghost use Rattle.std.specs.Prelude.{◌≡◌, ◌≤◌, length};
+ghost use Rattle.std.specs.Prelude.{◌≡◌, ◌≤◌, length, IfSome};
 ghost use Rattle.io.specs.Counts.{IsPrefixLen};
 
 use crate::{call, text_of};
@@ -15,15 +15,70 @@ use std::process;
 use std::rt::{Files, HostRuntime};
 use streams::{Stream, descriptor, on};
 
-// An output that is being written, its file, and how many bytes the name of the file beside it has, which is 0 where there is none.
+// An output that is being written, its file, its name, and the name of the file beside it where there is one.
 #[derive(Drop)]
-pub struct Output {
+pub struct Output<'a> {
     pub stream: Stream,
-    pub file: Option<File>,
-    pub beside: usize,
+    rt: HostRuntime,
+    file: Option<File>,
+    name: &'a [u8],
+    pub beside: Option<&'a [u8]>,
 }
 
-// A number in decimal, as far as there is room.
+impl<'a> Output<'a> {
+    // The output of a file that was opened; its stream has failed where none was.
+    fn of(
+        rt: HostRuntime,
+        file: Option<File>,
+        name: &'a [u8],
+        beside: Option<&'a [u8]>,
+    ) -> Output<'a>
+        ensures { result.beside ≡ beside.entry }
+    {
+        Output {
+            stream: match &file {
+                Some(file) => on(file.as_raw_fd()),
+                None => on(-1),
+            },
+            rt,
+            file,
+            name,
+            beside,
+        }
+    }
+
+    // Ends an output that is not wanted, or whose writing failed: what stood under the name stays.
+    pub fn abandon(self) {
+        drop(self.file);
+        if let Some(beside) = self.beside {
+            drop(unlink(self.rt, beside));
+        }
+    }
+
+    // Gives the file beside its name, once it is on the disk.
+    fn rename(&self) -> Result<()> {
+        let Some(beside) = self.beside else {
+            return Ok(());
+        };
+        if let Some(file) = &self.file {
+            file.sync_all()?;
+        }
+        self.rt
+            .rename(text_of(self.rt, beside)?, text_of(self.rt, self.name)?)
+    }
+
+    // Brings what was written to the disk and gives it its name, behind the last write on its stream; false where that fails or a write
+    // had failed, and then errno tells why and what stood under the name stays.
+    pub fn finish(self, written: Stream) -> bool {
+        if written.failed || self.rename().is_err() {
+            self.abandon();
+            return false;
+        }
+        true
+    }
+}
+
+// A number in decimal, as far as there is room. kept: as `call`.
 fn call_number(n: u64, name: &mut [u8], at: usize) -> usize
     requires { at ≤ length name.old }
     ensures { IsPrefixLen result name.new × (length name.new ≡ length name.old) }
@@ -39,26 +94,8 @@ fn name_beside(rt: HostRuntime, name: &[u8], beside: &mut [u8]) -> usize
 {
     let dot = call(name, beside, 0);
     let number = call(b".", beside, dot);
-    let end = call_number(process::id(rt.process()) as u64, beside, number);
+    let end = call_number(u64::from(process::id(rt.process())), beside, number);
     call(b".part", beside, end)
-}
-
-// The stream and the file of an output that was opened, or neither.
-fn output_of(opened: Result<File>, beside: usize) -> Output
-    ensures { result.beside ≡ beside }
-{
-    match opened {
-        Ok(file) => Output {
-            stream: on(file.as_raw_fd()),
-            file: Some(file),
-            beside,
-        },
-        Err(_) => Output {
-            stream: on(-1),
-            file: None,
-            beside,
-        },
-    }
 }
 
 // A new file of this name, which has to be free.
@@ -70,18 +107,10 @@ fn create(rt: HostRuntime, name: &[u8]) -> Result<File> {
         .open(&rt, path)
 }
 
-fn begin_beside(rt: HostRuntime, name: &[u8], beside: &mut [u8]) -> Output
-    ensures { IsPrefixLen result.beside beside.new }
-{
-    let n = name_beside(rt, name, beside);
-    output_of(create(rt, &beside[..n]), n)
-}
-
-// What stands under a name: nothing, a file of a disk, something else, or what cannot be opened.
+// What stands under a name: nothing or a file of a disk, something else, or what cannot be opened.
 #[derive(Clone, Copy)]
 enum Old {
-    Missing,
-    Plain,
+    Replaceable,
     Other,
     Shut,
 }
@@ -92,20 +121,12 @@ fn open_update(rt: HostRuntime, name: &[u8]) -> Result<File> {
     OpenOptions::new().read(true).write(true).open(&rt, path)
 }
 
-fn opened(found: Result<File>) -> Old {
+fn replaced(found: Result<File>) -> Old {
     match found {
-        Ok(file) => {
-            if file.sync_all().is_ok() {
-                return Old::Plain;
-            }
-            Old::Other
-        }
-        Err(e) => {
-            if e.kind() == ErrorKind::NotFound {
-                return Old::Missing;
-            }
-            Old::Shut
-        }
+        Ok(file) if file.sync_all().is_ok() => Old::Replaceable,
+        Ok(_) => Old::Other,
+        Err(e) if e.kind() == ErrorKind::NotFound => Old::Replaceable,
+        Err(_) => Old::Shut,
     }
 }
 
@@ -113,63 +134,24 @@ fn overwrite(rt: HostRuntime, name: &[u8]) -> Result<File> {
     File::create(&rt, text_of(rt, name)?)
 }
 
-// Begins the output of this name, and puts the name of the file beside it at the front of `beside`. Where that fails, the stream
-// has failed and errno tells why.
-pub fn begin(rt: HostRuntime, name: &[u8], beside: &mut [u8]) -> Output
-    ensures { IsPrefixLen result.beside beside.new }
+// Begins the output of this name; the name of the file beside it stands in `room`. Where that fails, the stream has failed and errno
+// tells why.
+pub fn begin<'a>(rt: HostRuntime, name: &'a [u8], room: &'a mut [u8]) -> Output<'a>
+    ensures { IfSome result.beside (λ beside. length beside.now ≤ length room.old) }
 {
-    match opened(open_update(rt, name)) {
-        Old::Shut => Output {
-            stream: on(-1),
-            file: None,
-            beside: 0,
-        },
-        Old::Other => output_of(overwrite(rt, name), 0),
-        _ => begin_beside(rt, name, beside),
+    match replaced(open_update(rt, name)) {
+        Old::Replaceable => {
+            let n = name_beside(rt, name, room);
+            let beside = &room[..n];
+            Output::of(rt, create(rt, beside).ok(), name, Some(beside))
+        }
+        Old::Other => Output::of(rt, overwrite(rt, name).ok(), name, None),
+        Old::Shut => Output::of(rt, None, name, None),
     }
 }
 
 fn unlink(rt: HostRuntime, name: &[u8]) -> Result<()> {
     rt.remove_file(text_of(rt, name)?)
-}
-
-// Ends an output that is not wanted, or whose writing failed: what stood under the name stays.
-pub fn abandon(rt: HostRuntime, file: Option<File>, beside: &[u8]) {
-    drop(file);
-    if 0 < beside.len() {
-        drop(unlink(rt, beside));
-    }
-}
-
-// Gives a file beside its name, once it is on the disk.
-fn rename(rt: HostRuntime, file: &Option<File>, name: &[u8], beside: &[u8]) -> Result<()> {
-    if let Some(file) = file {
-        file.sync_all()?;
-    }
-    rt.rename(text_of(rt, beside)?, text_of(rt, name)?)
-}
-
-// Brings what was written to the disk and gives it its name; false where that fails or a write had failed, and then errno tells
-// why and what stood under the name stays.
-pub fn finish(
-    rt: HostRuntime,
-    stream: Stream,
-    file: Option<File>,
-    name: &[u8],
-    beside: &[u8],
-) -> bool {
-    if stream.failed {
-        abandon(rt, file, beside);
-        return false;
-    }
-    if beside.len() == 0 {
-        return true;
-    }
-    if rename(rt, &file, name, beside).is_err() {
-        abandon(rt, file, beside);
-        return false;
-    }
-    true
 }
 
 // Where the system tells of an open file, at the front of `link`.
@@ -193,7 +175,7 @@ fn where_is(rt: HostRuntime, fd: i32) -> Result<PathBuf> {
 fn is_same_path(rt: HostRuntime, a: i32, b: i32) -> Result<bool> {
     let here = where_is(rt, a)?;
     let there = where_is(rt, b)?;
-    Ok(args::is(here.as_str().as_bytes(), there.as_str().as_bytes()))
+    Ok(here.as_str() == there.as_str())
 }
 
 // The kit gives a path that is text alone, in memory that it may not get. Where there is none the files themselves are compared.
@@ -207,20 +189,13 @@ fn is_same_file(rt: HostRuntime, a: i32, b: i32) -> Result<bool> {
     Ok(here.dev() == there.dev() && here.ino() == there.ino())
 }
 
-fn is_same(rt: HostRuntime, a: i32, b: i32) -> bool {
-    match is_same_path(rt, a, b) {
-        Ok(same) => same,
-        Err(_) => match is_same_file(rt, a, b) {
-            Ok(same) => same,
-            Err(_) => false,
-        },
-    }
-}
-
 // Whether an open input is the file of this name, which an output would replace.
 pub fn is_input(rt: HostRuntime, input: Stream, name: &[u8]) -> bool {
-    match open_update(rt, name) {
-        Ok(file) => is_same(rt, descriptor(input), file.as_raw_fd()),
-        Err(_) => false,
-    }
+    let Ok(file) = open_update(rt, name) else {
+        return false;
+    };
+    let (a, b) = (descriptor(input), file.as_raw_fd());
+    is_same_path(rt, a, b)
+        .or_else(|_| is_same_file(rt, a, b))
+        .unwrap_or(false)
 }

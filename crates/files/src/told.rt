@@ -1,5 +1,5 @@
 // What a program tells people: messages on standard error, a text on standard output, the version, and the verdict.
-use crate::argument_or_none;
+use crate::{Verdict, argument};
 use std::fmt::InlineText;
 use std::rt::HostRuntime;
 use std_io::io::last_error;
@@ -10,75 +10,75 @@ const VERDICT: i32 = 198;
 
 const STDERR_FILENO: i32 = 2;
 
-// 0 where all is well, 1 where something differs, is left or could not be read, 2 where there was trouble.
-pub fn verdict(status: u64) {
-    let word = if status == 0 {
-        b'0'
-    } else if status == 1 {
-        b'1'
-    } else {
-        b'2'
+// Tells the verdict, which may be given by its number.
+pub fn verdict(status: impl Into<Verdict>) {
+    let digit = match status.into() {
+        Verdict::Well => b'0',
+        Verdict::Differs => b'1',
+        Verdict::Trouble => b'2',
     };
-    io::write_all(VERDICT, &[word]);
+    io::write_all(VERDICT, &[digit]);
 }
 
 pub fn say(words: &[u8]) {
     io::write_all(STDERR_FILENO, words);
 }
 
+// One piece after the other.
+fn say_all(pieces: &[&[u8]]) {
+    for piece in pieces {
+        say(piece);
+    }
+}
+
 // What the system says of an error, without its number, which the kit puts behind it.
 fn reason(text: &str) -> &str {
-    match text.split_once(" (os error ") {
-        Some((words, _)) => words,
-        None => text,
-    }
+    text.split_once(" (os error ")
+        .map_or(text, |(words, _)| words)
 }
 
 // `PROGRAM: WHAT: ` and why the last call failed.
 pub fn trouble(program: &[u8], what: &[u8]) {
     let why: InlineText<128> = InlineText::of(last_error());
-    say(program);
-    say(b": ");
-    say(what);
-    say(b": ");
-    say(reason(why.as_str()).as_bytes());
-    say(b"\n");
+    say_all(&[
+        program,
+        b": ",
+        what,
+        b": ",
+        reason(why.as_str()).as_bytes(),
+        b"\n",
+    ]);
 }
 
 // `PROGRAM: WHAT ARGUMENT`, of an argument that cannot be done.
-pub fn complain(rt: HostRuntime, program: &[u8], what: &[u8], argument: usize) {
+pub fn complain(rt: HostRuntime, program: &[u8], what: &[u8], i: usize) {
     let mut word = io::buffer();
-    let n = argument_or_none(rt, argument, &mut word);
-    say(program);
-    say(b": ");
-    say(what);
-    say(b" ");
-    say(&word[..n]);
-    say(b"\n");
+    let n = argument(rt, i, &mut word).unwrap_or(0);
+    say_all(&[program, b": ", what, b" ", &word[..n], b"\n"]);
     point(program);
 }
 
 // Where to find what there is.
 pub fn point(program: &[u8]) {
-    say(program);
-    say(b" --help tells what there is\n");
+    say_all(&[program, b" --help tells what there is\n"]);
 }
 
-// The verdict on an output: 2 and a message where a write failed.
-pub fn written(program: &[u8], out: Stream, status: u64) -> u64 {
+// The verdict on an output: trouble and a message where a write failed.
+pub fn written(program: &[u8], out: Stream, status: impl Into<Verdict>) -> Verdict {
+    let verdict = status.into();
     if out.failed {
         trouble(program, b"standard output");
-        return 2;
+        return Verdict::Trouble;
     }
-    status
+    verdict
 }
 
 // A text on standard output.
-pub fn text(program: &[u8], words: &[u8]) -> u64 {
-    written(program, write(standard_output(), words), 0)
+pub fn text(program: &[u8], words: &[u8]) -> Verdict {
+    written(program, write(standard_output(), words), Verdict::Well)
 }
 
 // The version of all that is in this repository.
-pub fn version(program: &[u8]) -> u64 {
+pub fn version(program: &[u8]) -> Verdict {
     text(program, b"Rasagulbe 0.5.0\n")
 }

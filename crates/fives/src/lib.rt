@@ -32,29 +32,28 @@ pub struct Tally {
 fn first_of(first: u64, call: u64) -> u64
     ensures { result ≡ cond (eqb first 0) call first }
 {
-    if first == 0 {
-        return call;
-    }
-    first
+    // kept: the definition `counted`: none is 0, as rule Trace prints it
+    if first == 0 { call } else { first }
 }
 
 // One pair more, whose recorded reply is today's or not.
+#[tactic(auto, unfolding(crate::specs::Count::counted))]
 pub fn count_pair(tally: Tally, alike: bool) -> Tally
     ensures { result ≡ counted tally alike }
 {
     let calls = capped::more(tally.calls);
     if alike {
-        return Tally {
+        Tally {
             calls,
             same: capped::more(tally.same),
-            differ: tally.differ,
-            first: tally.first,
-        };
-    }
-    Tally {
-        calls,
-        same: tally.same,
-        differ: capped::more(tally.differ),
-        first: first_of(tally.first, calls),
+            ..tally
+        }
+    } else {
+        Tally {
+            calls,
+            differ: capped::more(tally.differ),
+            first: first_of(tally.first, calls),
+            ..tally
+        }
     }
 }

@@ -19,6 +19,7 @@ fn write_lines(five: Five, out: &mut [u8]) -> usize
 
 // Writes the five lines at the front of `out` and answers how many bytes they are. Under 134 bytes of room nothing is
 // written: 0.
+// kept: the contract `Told`: what is counted is bytes, and the room is of these lines alone
 pub fn write_five(five: Five, out: &mut [u8]) -> usize
     ensures { Told five out.old result out.new }
 {

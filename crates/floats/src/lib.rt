@@ -12,7 +12,8 @@ ghost use Rattle.floats.specs.Step.{Stepped};
 
 use request::units::{PathNumber, Travel};
 
-// What stands for an f64 that is no path number: it is beyond them all.
+// What stands for an f64 that is no path number: it is beyond them all, so that PARAMETER refuses it.
+// kept: no `Option`, since `path_of` in specs/Path.antt, of which the contract of `path_number` speaks, has this number for it
 fn none() -> PathNumber
     ensures { result.0 ≡ pos 1025 }
 {
@@ -36,22 +37,18 @@ pub fn path_number(x: f64) -> PathNumber
     PathNumber(k as i32)
 }
 
-fn of_number(n: i32) -> f64
-    ensures { result ≡ float n }
-{
-    std::num::nearest_i64_to_f64(n as i64)
-}
-
+#[tactic(auto, unfolding(crate::specs::Float::float))]
 pub fn of_path(p: PathNumber) -> f64
     ensures { result ≡ float p.0 }
 {
-    of_number(p.0)
+    f64::from(p.0)
 }
 
+#[tactic(auto, unfolding(crate::specs::Float::float))]
 pub fn of_travel(t: Travel) -> f64
     ensures { result ≡ float t.0 }
 {
-    of_number(t.0)
+    f64::from(t.0)
 }
 
 // What u leaves of 1,024.

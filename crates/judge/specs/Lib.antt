@@ -1,2 +1,2 @@
--- The tests from VALUE on, of rides and of patches, and where a number is beyond its bounds, over both kinds of number. Assumes nothing.
+-- The tests from VALUE on, of rides and of patches, and what the search for a place answers. Assumes nothing.
 pub mod Places

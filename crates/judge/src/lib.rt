@@ -11,11 +11,12 @@ ghost use Rattle.request.specs.Cascade.{first, decided};
 ghost use Rattle.request.specs.Refusal.{not_degree, not_room, value_place, accepted, answer};
 ghost use Rattle.judge.specs.Places.{number_tests};
 
-use places::{balance_place, beyond_place};
+use request::refusals::Refusal;
 use request::units::Age;
-use request::{Answer, Head, Rooms, refusal};
+use request::{Answer, Head, Rooms};
 
 // L + 1: how many places of each output array are written.
+// kept: `not_degree head ≡ false` in five contracts here and in `request`, three of them public and named in docs/PROMISES.md
 pub fn place_count(head: Head) -> usize
     requires { not_degree head ≡ false }
     ensures { result ≡ longest head + 1 }
@@ -25,100 +26,86 @@ pub fn place_count(head: Head) -> usize
 }
 
 // The least index of a control value beyond its bounds, or the surface's length: of a surface, and of a composed net.
+#[tactic(auto, unfolding(crate::specs::Places::Finds))]
 pub fn value_place(surface: &[i32]) -> usize
     ensures { result ≡ value_place surface.now }
 {
-    beyond_place(false, surface)
+    places::bad_travel(surface).unwrap_or(surface.len())
 }
 
 // 5 ROOM
+#[tactic(auto, unfolding(request::specs::Refusal::not_room))]
 fn not_room(head: Head, rooms: Rooms) -> bool
     requires { not_degree head ≡ false }
     ensures { result ≡ not_room head rooms }
 {
     let count = place_count(head);
-    if rooms.high < count {
-        return true;
-    }
-    if rooms.low < count {
-        return true;
-    }
-    if rooms.points < count {
-        return true;
-    }
-    false
+    rooms.high < count || rooms.low < count || rooms.points < count
 }
 
+#[tactic(auto, unfolding(request::specs::Refusal::accepted, request::specs::Cascade::accepting))]
 fn acceptance(head: Head) -> Answer
     requires { not_degree head ≡ false }
     ensures { result ≡ accepted head }
 {
-    Answer {
-        number: 0,
-        place: 0,
-        count: place_count(head),
-    }
+    Answer::accepted(place_count(head))
 }
 
 // VALUE, PARAMETER and BALANCE of the first `points` path points, of rides and of patches; where none of them holds, the last word.
+#[tactic(auto, unfolding(request::specs::Cascade::first, request::specs::Cascade::decided))]
 pub fn judge_numbers(surface: &[i32], path: &[i32], points: usize, last: Answer) -> Answer
     requires { points ≤ 10 }
     ensures { result ≡ decided (first (number_tests surface.now path.now points)) last }
 {
-    let value = beyond_place(false, surface);
-    if value < surface.len() {
-        return refusal(6, value);
+    if let Some(k) = places::bad_travel(surface) {
+        return Refusal::Value.at(k);
     }
-    let parameter = beyond_place(true, path);
-    if parameter < path.len() {
-        return refusal(7, parameter);
+    if let Some(k) = places::bad_path_number(path) {
+        return Refusal::Parameter.at(k);
     }
-    let balance = balance_place(path, points);
-    if balance < points {
-        return refusal(8, balance);
+    if let Some(c) = places::uneven_point(path, points) {
+        return Refusal::Balance.at(c);
     }
     last
 }
 
 // How many path points are to be balanced: all of form 3, none of the others.
+#[tactic(auto, unfolding(request::specs::Head::by_form))]
 fn balanced(head: Head) -> usize
     requires { not_degree head ≡ false }
     ensures { (result ≡ by_form head 0 0 (head.N + 1)) × (result ≤ 10) }
 {
-    if head.form == 1 {
-        return 0;
+    match head.form {
+        1 | 2 => 0,
+        _ => head.N as usize + 1,
     }
-    if head.form == 2 {
-        return 0;
-    }
-    head.N as usize + 1
 }
 
 // The nine refusals in their order, each exactly on its condition, or the acceptance: 01's answer (rule Refusals) to a request
 // whose output arrays have these rooms.
+#[tactic(auto, unfolding(request::specs::Refusal::answer, request::specs::Refusal::refusals, request::specs::Cascade::first, request::specs::Cascade::decided, request::specs::Refusal::not_surface, request::specs::Refusal::not_path))]
 pub fn judge(head: Head, age: Age, surface: &[i32], path: &[i32], rooms: Rooms) -> Answer
     ensures { result ≡ answer (request_of head surface.now path.now) age.0 rooms }
 {
     if request::not_kind(head) {
-        return refusal(1, 0);
+        return Refusal::Kind.at(0);
     }
     if request::not_degree(head) {
-        return refusal(2, 0);
+        return Refusal::Degree.at(0);
     }
-    let old = request::units::is_stale(age);
     let values = request::surface_count(head);
     let numbers = request::path_count(head);
-    if old {
-        return refusal(10, 0);
+    if request::units::is_stale(age) {
+        return Refusal::Stale.at(0);
     }
     if surface.len() != values {
-        return refusal(3, 0);
+        return Refusal::Surface.at(0);
     }
     if path.len() != numbers {
-        return refusal(4, 0);
+        return Refusal::Path.at(0);
     }
     if not_room(head, rooms) {
-        return refusal(5, 0);
+        return Refusal::Room.at(0);
     }
     judge_numbers(surface, path, balanced(head), acceptance(head))
 }

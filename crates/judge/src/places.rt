@@ -1,31 +1,23 @@
 // Where a request's numbers are at fault: the least index of a control value or of a path number beyond its bounds, and the
 // least number of a path point that is not balanced.
 ghost use Rattle.std.specs.Prelude.{◌≡◌, ◌≤◌, ◌<◌, pos, length, get_or};
-ghost use Rattle.request.specs.Refusal.{least, uneven, parameter_place};
-ghost use Rattle.judge.specs.Places.{beyond, beyond_place};
+ghost use Rattle.request.specs.Refusal.{least, uneven, value_place, parameter_place};
+ghost use Rattle.judge.specs.Places.{Finds};
 
-// Whether number k, of a path or of a surface, is beyond its bounds.
-fn is_beyond(path: bool, numbers: &[i32], k: usize) -> bool
-    ensures { result ≡ beyond path (get_or numbers.now k (pos 0)) }
+use request::units;
+
+// The least index of a control value beyond its bounds.
+pub fn bad_travel(surface: &[i32]) -> Option<usize>
+    ensures { Finds (length surface.now) (value_place surface.now) result }
 {
-    if path {
-        return request::units::beyond_path(request::units::path_number_at(numbers, k));
-    }
-    request::units::beyond_travel(request::units::travel_at(numbers, k))
+    (0..surface.len()).find(|k| units::beyond_travel(units::travel_at(surface, *k)))
 }
 
-// The least index of a number beyond its bounds, of a path or of a surface, or their count.
-pub fn beyond_place(path: bool, numbers: &[i32]) -> usize
-    ensures { result ≡ beyond_place path numbers.now }
+// The least index of a path number beyond its bounds.
+pub fn bad_path_number(path: &[i32]) -> Option<usize>
+    ensures { Finds (length path.now) (parameter_place path.now) result }
 {
-    let mut k = 0;
-    while k < numbers.len() {
-        if is_beyond(path, numbers, k) {
-            return k;
-        }
-        k += 1;
-    }
-    k
+    (0..path.len()).find(|k| units::beyond_path(units::path_number_at(path, *k)))
 }
 
 // Whether x + y + z of path point c is not 1024. The path's numbers are within their bounds.
@@ -33,23 +25,16 @@ fn is_uneven(path: &[i32], c: usize) -> bool
     requires { (c < 10) × (parameter_place path.now ≡ length path.now) }
     ensures { result ≡ uneven path.now c }
 {
-    let x = request::units::path_size_at(path, 3 * c);
-    let y = request::units::path_size_at(path, 3 * c + 1);
-    let z = request::units::path_size_at(path, 3 * c + 2);
+    let x = units::path_size_at(path, 3 * c);
+    let y = units::path_size_at(path, 3 * c + 1);
+    let z = units::path_size_at(path, 3 * c + 2);
     x + y + z != 1024
 }
 
-// The least number of a path point, of the first `points`, whose x + y + z is not 1024, or `points`.
-pub fn balance_place(path: &[i32], points: usize) -> usize
+// The least number of a path point, of the first `points`, whose x + y + z is not 1024.
+pub fn uneven_point(path: &[i32], points: usize) -> Option<usize>
     requires { (points ≤ 10) × (parameter_place path.now ≡ length path.now) }
-    ensures { result ≡ least points (uneven path.now) }
+    ensures { Finds points (least points (uneven path.now)) result }
 {
-    let mut c = 0;
-    while c < points {
-        if is_uneven(path, c) {
-            return c;
-        }
-        c += 1;
-    }
-    c
+    (0..points).find(|c| is_uneven(path, *c))
 }

@@ -32,36 +32,6 @@ module _ (request : List ℕ) where
   judged-is P nine one two ten last =
       decided-is P (door_refusals request) _ (nine, (one, (two, (ten, (nine, tt))))) (λ n. last (all-passed n))
 
--- one test after the other, as code makes them
-module _ (request : List ℕ) where
-  pub by-frame : not_frame request ≡ true → tested request ≡ refused 9 0
-  unfolding tested refusals_by first decided
-  by-frame e = rw e
-
-  module _ (framed : not_frame request ≡ false) where
-    pub by_kind : not_kind (head_in request) ≡ true → tested request ≡ refused 1 0
-    unfolding tested refusals_by first decided
-    by_kind e = rw (framed, e)
-
-    module _ (kinded : not_kind (head_in request) ≡ false) where
-      pub by-degree : not_degree (head_in request) ≡ true → tested request ≡ refused 2 0
-      unfolding tested refusals_by first decided
-      by-degree e = rw (framed, kinded, e)
-
-      module _ (small : not_degree (head_in request) ≡ false) where
-        pub by-age : stale (age_in request) ≡ true → tested request ≡ refused 10 0
-        unfolding tested refusals_by first decided
-        by-age e = rw (framed, kinded, small, e)
-
-        module _ (fresh : stale (age_in request) ≡ false) where
-          pub by-body : not_body request ≡ true → tested request ≡ refused 9 0
-          unfolding tested refusals_by first decided
-          by-body e = rw (framed, kinded, small, fresh, e)
-
-          pub by-none : not_body request ≡ false → tested request ≡ refused 0 0
-          unfolding tested refusals_by first decided
-          by-none e = rw (framed, kinded, small, fresh, e)
-
 -- where the door's own table leaves number 0 none of its tests holds; otherwise it has the last word
 module _ (request : List ℕ) where
   pub passed : (tested request).number ≡ 0 → Passed request

@@ -8,11 +8,13 @@ ghost use Rattle.judgement.specs.Record.{head_in, is_aged, aged_start, start_in,
 ghost use Rattle.judgement.specs.Judgement.{not_frame, tested as tested_in};
 ghost use Rattle.judgement.specs.Opening.{Read, Opens};
 
+use request::refusals::Refusal;
 use request::units::Age;
 use request::{Answer, Head};
 
 // A record's head, the age of its tilt sample, the byte at which its numbers begin, and the refusal by the door's own table:
 // number 0 where none of its tests holds.
+// kept: no `Option`, since `Opens`, the contract of `open_record`, says of `refusal` that it is `tested`
 #[derive(Clone, Copy)]
 pub struct Opened {
     pub head: Head,
@@ -22,6 +24,7 @@ pub struct Opened {
 }
 
 // The kinds of a request, without and with the age of its tilt sample.
+// kept: numbers, since what stands in a record is any word, and an enum would be read from it and written back for two tests
 const REQUEST_KIND: u64 = 0x0001;
 
 const AGED_KIND: u64 = 0x0002;
@@ -32,22 +35,20 @@ const START: usize = 8;
 const AGED_START: usize = 10;
 
 // 9 FRAME, before anything else.
+#[tactic(auto, unfolding(crate::specs::Judgement::not_frame, crate::specs::Judgement::not_of_kind, crate::specs::Record::is_aged, wire::specs::Start::length_field, wire::specs::Start::kind_field))]
 fn not_frame(request: &[u8]) -> bool
     ensures { result ≡ not_frame request.now }
 {
-    if request.len() < START {
+    if request.len() < START || wire::word_at(request, 0) != request.len() as u64 {
         return true;
     }
-    if wire::word_at(request, 0) != request.len() as u64 {
-        return true;
+    match wire::word_at(request, 2) {
+        AGED_KIND => request.len() < AGED_START,
+        kind => kind != REQUEST_KIND,
     }
-    let kind = wire::word_at(request, 2);
-    if kind == AGED_KIND {
-        return request.len() < AGED_START;
-    }
-    kind != REQUEST_KIND
 }
 
+#[tactic(auto, unfolding(crate::specs::Record::head_in))]
 fn head_in(request: &[u8]) -> Head
     ensures { result ≡ head_in request.now }
 {
@@ -60,6 +61,7 @@ fn head_in(request: &[u8]) -> Head
 }
 
 // Whether a record carries an age.
+#[tactic(auto, unfolding(crate::specs::Record::is_aged, wire::specs::Start::kind_field))]
 fn is_aged(request: &[u8]) -> bool
     ensures { result ≡ is_aged request.now }
 {
@@ -67,6 +69,7 @@ fn is_aged(request: &[u8]) -> bool
 }
 
 // Where the numbers of a request begin.
+#[tactic(auto, unfolding(crate::specs::Record::start_in))]
 fn start_in(request: &[u8]) -> usize
     ensures { result ≡ start_in request.now }
 {
@@ -74,13 +77,15 @@ fn start_in(request: &[u8]) -> usize
 }
 
 // The age of a request's tilt sample; no age means old.
+#[tactic(auto, unfolding(crate::specs::Record::age_by, crate::specs::Record::missing_age))]
 fn age_in(request: &[u8]) -> Age
     ensures { result.0 ≡ age_in request.now }
 {
     if is_aged(request) {
-        return Age(wire::word_at(request, START) as u16);
+        Age(wire::word_at(request, START) as u16)
+    } else {
+        Age(u16::MAX)
     }
-    Age(u16::MAX)
 }
 
 // How long the head says that a record is whose numbers begin at byte `from`.
@@ -92,29 +97,27 @@ fn body_end(from: usize, head: Head) -> usize
 }
 
 // The order of judgement: FRAME, KIND, DEGREE, STALE and the body's FRAME.
+#[tactic(auto, unfolding(crate::specs::Judgement::tested, crate::specs::Judgement::refusals_by, crate::specs::Judgement::not_body, request::specs::Cascade::first, request::specs::Cascade::decided, request::specs::Cascade::refused, request::specs::Cascade::accepting))]
 fn tested(request: &[u8], head: Head, age: Age, from: usize) -> Answer
     requires { Read request.now head age.0 from }
     ensures { result ≡ tested_in request.now }
 {
     if not_frame(request) {
-        return request::refusal(9, 0);
+        return Refusal::Frame.at(0);
     }
     if request::not_kind(head) {
-        return request::refusal(1, 0);
+        return Refusal::Kind.at(0);
     }
     if request::not_degree(head) {
-        return request::refusal(2, 0);
+        return Refusal::Degree.at(0);
     }
-    let end = body_end(from, head);
-    let old = request::units::is_stale(age);
-    let other_length = request.len() != end;
-    if old {
-        return request::refusal(10, 0);
+    if request::units::is_stale(age) {
+        return Refusal::Stale.at(0);
     }
-    if other_length {
-        return request::refusal(9, 0);
+    if request.len() != body_end(from, head) {
+        return Refusal::Frame.at(0);
     }
-    request::refusal(0, 0)
+    Answer::accepted(0)
 }
 
 // Opens a record of any bytes.

@@ -12,6 +12,7 @@ use request::units::Age;
 // Composes a surface and a path, on a tilt sample of the given age in milliseconds, and writes the number, the place and
 // the count of the answer and the entries that were formed to the first four of `words`: 0. Where `words` has fewer than four
 // places nothing at all is written: 1.
+// kept: the C interface has a number for the code
 #[unsafe(no_mangle)]
 pub extern "C" fn lean_compose(
     form: u32,

@@ -2,7 +2,7 @@
 // does not cross alike on every machine. Zeros in both are the converter that has taken nothing.
 #![tactic(auto)]
 
-ghost use Rattle.std.specs.Prelude.{◌≡◌, cond};
+ghost use Rattle.std.specs.Prelude.{◌≡◌};
 ghost use Rattle.feed.specs.Feed.{held_room};
 ghost use Rattle.renewal.specs.converter.Put.{feed_of, last_out};
 ghost use Rattle.spell.specs.Decimal.{Told};
@@ -13,31 +13,19 @@ use renewal::converter::Converter;
 fn converter_in(held: &[u8; 256], words: &[u64; 5]) -> Converter
     ensures { result ≡ converter_in held.now words.now }
 {
-    let bytes = *held;
     Converter {
-        held: bytes,
+        held: *held,
         rest: words[0],
         changed: words[1],
     }
 }
 
-fn flag(refused: bool) -> u64
-    ensures { result ≡ cond refused 1 0 }
-{
-    if refused {
-        return 1;
-    }
-    0
-}
-
+// kept: the C interface: a truth crosses as a number, in a lent array of words
 fn put_words(words: &mut [u64; 5], converter: Converter, taken: u64, count: u64)
     ensures { words.new ≡ words_of converter taken count }
 {
-    let rest = converter.rest;
-    let changed = converter.changed;
-    let refused = flag(renewal::converter::refused(converter));
-    let all = [rest, changed, taken, count, refused];
-    *words = all;
+    let refused = u64::from(renewal::converter::refused(converter));
+    *words = [converter.rest, converter.changed, taken, count, refused];
 }
 
 // Takes the next part of an old trace, at most 65,536 bytes of it, and none where `out` has fewer than 74,016; puts what they put out to the

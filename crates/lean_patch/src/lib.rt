@@ -9,6 +9,7 @@ use crossing::put_answer;
 
 // Composes a triangular surface of degree n with a triangular domain of degree N, and writes the number, the place and the count of
 // the answer to the first three of `words`: 0. Where `words` has fewer than three places nothing at all is written: 1.
+// kept: the C interface has a number for the code
 #[unsafe(no_mangle)]
 pub extern "C" fn lean_patch(
     n: u32,

@@ -7,6 +7,7 @@ use crossing::put;
 
 // Replays a trace and writes calls, same, differ, first and rest to the first five of `words`: 0. Where `words` has fewer
 // than five places nothing is written: 1.
+// kept: the C interface: lent words and a number for a refusal (include/lean.h)
 #[unsafe(no_mangle)]
 pub extern "C" fn lean_replay(bytes: &[u8], words: &mut [u64]) -> u32
     ensures { Replayed bytes.now words.old result words.new }

@@ -11,9 +11,8 @@ use salvaging::saver::{Place, Stretch};
 fn put_stretch(words: &mut [u64], next: Stretch)
     ensures { words.new ≡ with_stretch next words.old }
 {
-    let behind = next.place;
-    put(words, 0, behind.from);
-    put(words, 1, behind.lost);
+    put(words, 0, next.place.from);
+    put(words, 1, next.place.lost);
     put(words, 2, next.skipped as u64);
     put(words, 3, next.kept as u64);
     put(words, 4, next.line as u64);
@@ -23,6 +22,7 @@ fn put_stretch(words: &mut [u64], next: Stretch)
 // which on bytes were skipped, and how many. Writes the place behind what lies ahead, how many bytes are skipped, how many behind them
 // are kept, and how many bytes of `line` the line of a run is that is over: 0. Where `words` has fewer than five places or `line` fewer
 // than 47 nothing is written: 1.
+// kept: the C interface: lent words, a number for a truth and one for a refusal (include/lean.h)
 #[unsafe(no_mangle)]
 pub extern "C" fn lean_salvage(window: &[u8], last: u32, words: &mut [u64], line: &mut [u8]) -> u32
     ensures { Salvaged window.now last words.old line.old result words.new line.new }
@@ -33,9 +33,10 @@ pub extern "C" fn lean_salvage(window: &[u8], last: u32, words: &mut [u64], line
     if line.len() < 47 {
         return 1;
     }
-    let from = words[0];
-    let lost = words[1];
-    let place = Place { from, lost };
+    let place = Place {
+        from: words[0],
+        lost: words[1],
+    };
     put_stretch(
         words,
         salvaging::saver::ahead(window, last != 0, place, line),

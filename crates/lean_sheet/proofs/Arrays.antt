@@ -1,16 +1,18 @@
 -- The arrays that hold a state. Assumes nothing.
 use mathlib.Core.Path.{◌≡◌}
-use mathlib.Core.Bool.{Bool, cond}
+use mathlib.Core.Bool.{Bool, true, false}
 use mathlib.Core.List.{List, [], ◌∷◌}
 use Prim.Native.Nat.{ℕ}
 use lib.IntN.{ℤ}
+use mir.Val.{bool_byte}
 use Rattle.day.specs.declared.sheets.Span.{Span}
 use Rattle.day.specs.declared.daily.State.{State}
 use Rattle.lean_sheet.specs.Fed.{counts_of, span_of, Holds}
 
-pub counts-are : (rest odd flag : ℕ) (some : Bool) → flag ≡ cond some 1 0 → rest ∷ odd ∷ flag ∷ [] ≡ counts_of rest odd some
+pub counts-are : (rest odd flag : ℕ) (some : Bool) → flag ≡ bool_byte some → rest ∷ odd ∷ flag ∷ [] ≡ counts_of rest odd some
 unfolding counts_of
-counts-are rest odd flag some e = rw e
+counts-are rest odd flag true e = rw e
+counts-are rest odd flag false e = rw e
 
 pub span_is : (s : Span) (a b : ℤ) → a ≡ s.least → b ≡ s.most → a ∷ b ∷ [] ≡ span_of s
 unfolding span_of

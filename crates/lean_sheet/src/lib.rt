@@ -2,7 +2,7 @@
 // not cross alike on every machine. Zeros in all of them are the state that has taken nothing.
 #![tactic(auto)]
 
-ghost use Rattle.std.specs.Prelude.{◌≡◌, cond};
+ghost use Rattle.std.specs.Prelude.{◌≡◌};
 ghost use Rattle.lean_sheet.specs.Fed.{span_in, state_in, counts_of, span_of, Fed};
 
 use day::daily::State;
@@ -21,42 +21,28 @@ fn span_in(counts: &[u64; 3], span: &[i64; 2]) -> Span
 fn state_in(held: &[u8; 256], counts: &[u64; 3], refusals: &[u64; 11], span: &[i64; 2]) -> State
     ensures { result ≡ state_in held.now counts.now refusals.now span.now }
 {
-    let bytes = *held;
-    let numbers = *refusals;
     State {
-        held: bytes,
+        held: *held,
         rest: counts[0],
         sheet: Sheet {
             odd: counts[1],
-            refusals: numbers,
+            refusals: *refusals,
             span: span_in(counts, span),
         },
     }
 }
 
-fn flag(some: bool) -> u64
-    ensures { result ≡ cond some 1 0 }
-{
-    if some {
-        return 1;
-    }
-    0
-}
-
+// kept: the C interface: a truth crosses as a number, in a lent array of words
 fn put_counts(counts: &mut [u64; 3], rest: u64, odd: u64, some: bool)
     ensures { counts.new ≡ counts_of rest odd some }
 {
-    let all = [rest, odd, flag(some)];
-    *counts = all;
+    *counts = [rest, odd, u64::from(some)];
 }
 
 fn put_span(lent: &mut [i64; 2], span: Span)
     ensures { lent.new ≡ span_of span }
 {
-    let least = span.least;
-    let most = span.most;
-    let all = [least, most];
-    *lent = all;
+    *lent = [span.least, span.most];
 }
 
 // Takes the next part of a trace, of any length. The state is in `held`, the bytes of the pair that is not whole yet; in `counts`:
@@ -75,11 +61,10 @@ pub extern "C" fn lean_sheet(
 {
     let state = day::daily::take(state_in(held, counts, refusals, span), part);
     let sheet = state.sheet;
-    let after = sheet.span;
     let bytes = state.held;
     let numbers = sheet.refusals;
     *held = bytes;
     *refusals = numbers;
-    put_counts(counts, state.rest, sheet.odd, after.some);
-    put_span(span, after);
+    put_counts(counts, state.rest, sheet.odd, sheet.span.some);
+    put_span(span, sheet.span);
 }

@@ -7,67 +7,53 @@ ghost use Rattle.names.specs.Names.{name_of, first_width, first_number, by_name}
 
 use spell::write_bytes;
 
-// The name of a refusal; nothing where a number has none. The names stand one after the other, each in nine bytes.
+// The name of a refusal; nothing where a number has none.
+#[tactic(auto, unfolding(crate::specs::Names::name_of))]
+pub fn name_of(n: u64) -> &'static [u8]
+    ensures { result.now ≡ name_of n }
+{
+    match n {
+        1 => b"KIND",
+        2 => b"DEGREE",
+        3 => b"SURFACE",
+        4 => b"PATH",
+        5 => b"ROOM",
+        6 => b"VALUE",
+        7 => b"PARAMETER",
+        8 => b"BALANCE",
+        9 => b"FRAME",
+        10 => b"STALE",
+        11 => b"MOMENT",
+        _ => b"",
+    }
+}
+
+// The name, written from a place on.
 pub fn write_name(n: u64, out: &mut [u8], at: usize) -> usize
     requires { at + 9 ≤ length out.old }
     ensures { Written 9 out.old at (name_of n) out.new result }
 {
-    if n >= 12 {
-        return at;
+    write_bytes(name_of(n), out, at)
+}
+
+// The number that an answer line begins with, of one digit or two, and what is behind it; 0 and the line where there is none.
+#[tactic(auto, unfolding(crate::specs::Names::first_number, crate::specs::Names::first_width))]
+fn first_number(line: &[u8]) -> (u64, &[u8])
+    ensures number { result.0 ≡ first_number line.now }
+    ensures behind { result.1.now ≡ drop (first_width line.now) line.now }
+{
+    match line {
+        [a, b' ', ..] => (digit(*a), &line[1..]),
+        [a, b, b' ', ..] => (10 * digit(*a) + digit(*b), &line[2..]),
+        _ => (0, line),
     }
-    let widths = [0, 4, 6, 7, 4, 4, 5, 9, 7, 5, 5, 6];
-    let width = widths[n as usize];
-    let names: &[u8] =
-        b"         KIND     DEGREE   SURFACE  PATH     ROOM     VALUE    PARAMETERBALANCE  FRAME    STALE    MOMENT   ";
-    let from = 9 * n as usize;
-    write_bytes(&names[from..from + width], out, at)
 }
 
 // The number that a digit is.
-fn digit_at(line: &[u8], k: usize) -> u64
-    ensures { (result ≡ get_or line.now k 0 - 48) × (result ≤ 207) }
+fn digit(b: u8) -> u64
+    ensures { (result ≡ b - 48) × (result ≤ 207) }
 {
-    let b = wire::byte_at(line, k);
-    if b < 48 {
-        return 0;
-    }
-    b - 48
-}
-
-fn first_width(line: &[u8]) -> usize
-    ensures { result ≡ first_width line.now }
-{
-    if wire::byte_at(line, 1) == 32 {
-        return 1;
-    }
-    if wire::byte_at(line, 2) == 32 {
-        return 2;
-    }
-    0
-}
-
-fn first_number(line: &[u8]) -> u64
-    ensures { result ≡ first_number line.now }
-{
-    let width = first_width(line);
-    if width == 1 {
-        return digit_at(line, 0);
-    }
-    if width == 2 {
-        return 10 * digit_at(line, 0) + digit_at(line, 1);
-    }
-    0
-}
-
-// The bytes of a line from a place on, or none where that is past its end.
-fn from(line: &[u8], k: usize) -> &[u8]
-    ensures { result.now ≡ drop k line.now }
-{
-    let size = line.len();
-    if k < size {
-        return &line[k..];
-    }
-    &line[size..]
+    u64::from(b.saturating_sub(b'0'))
 }
 
 // An answer line with its refusal's name in place of the number, at the front of `out`.
@@ -75,9 +61,10 @@ pub fn write_by_name(line: &[u8], out: &mut [u8]) -> usize
     requires { length line.now + 9 ≤ length out.old }
     ensures { Written (length line.now + 9) out.old 0 (by_name line.now) out.new result }
 {
-    let at = write_name(first_number(line), out, 0);
-    if at == 0 {
-        return write_bytes(line, out, at);
+    let (n, behind) = first_number(line);
+    if name_of(n).is_empty() {
+        return write_bytes(line, out, 0);
     }
-    write_bytes(from(line, first_width(line)), out, at)
+    let at = write_name(n, out, 0);
+    write_bytes(behind, out, at)
 }

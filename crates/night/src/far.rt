@@ -1,42 +1,35 @@
 // How far the reading of a night is, in words: bytes, their share where the size is known, and calls.
-use page::{put, put_natural};
+use page::Paper;
 use progress::Progress;
 
 // `, N %`; nothing where the size is not known.
-fn put_share(count: u64, size: u64, page: &mut [u8], at: usize) -> usize {
+fn put_share(count: u64, size: u64, paper: &mut Paper) {
+    // kept: 0 for a size that is not known, as `streams::source::size_of`, which is public, has it
     if size == 0 {
-        return at;
+        return;
     }
     if size <= count {
-        return put(b", 100 %", page, at);
+        paper.put(b", 100 %");
+        return;
     }
-    let a = put_natural(b", ", count / (size / 100 + 1), page, at);
-    put(b" %", page, a)
+    paper.put_natural(b", ", count / (size / 100 + 1));
+    paper.put(b" %");
 }
 
 // One line; on a terminal it is written again and again in one place, and ends where the reading does.
+// kept: whether it is a terminal, and whether the reading ended, are facts of the line, a byte of it each
 pub fn put_far(progress: Progress, count: u64, calls: u64, ended: bool, page: &mut [u8]) -> usize {
-    let a = put_first(progress.terminal, page);
-    let b = put_natural(b"replay: ", count, page, a);
-    let c = put(b" bytes", page, b);
-    let d = put_share(count, progress.size, page, c);
-    let e = put_natural(b", ", calls, page, d);
-    let f = put(b" calls so far", page, e);
-    put_last(progress.terminal, ended, page, f)
-}
-
-fn put_first(terminal: bool, page: &mut [u8]) -> usize {
-    if terminal {
-        return put(b"\r", page, 0);
+    let mut paper = Paper { bytes: page, at: 0 };
+    if progress.terminal {
+        paper.put(b"\r");
     }
-    0
-}
-
-fn put_last(terminal: bool, ended: bool, page: &mut [u8], at: usize) -> usize {
-    if terminal {
-        if !ended {
-            return at;
-        }
+    paper.put_natural(b"replay: ", count);
+    paper.put(b" bytes");
+    put_share(count, progress.size, &mut paper);
+    paper.put_natural(b", ", calls);
+    paper.put(b" calls so far");
+    if ended || !progress.terminal {
+        paper.put(b"\n");
     }
-    put(b"\n", page, at)
+    paper.at
 }

@@ -5,23 +5,12 @@
 mod far;
 pub mod listing;
 
-ghost use Rattle.std.specs.Prelude.{◌≡◌};
-ghost use Rattle.door.specs.tally.Read.{after_part};
-ghost use Rattle.reading.specs.Parts.{Took};
 ghost use Rattle.night.specs.Reading.{Replays};
 
 use door::tally::Reader;
 use fives::Five;
 use progress::Progress;
 use streams::{Source, Stream};
-
-// The input and the reader behind a part, and how many bytes came.
-#[derive(Clone, Copy)]
-struct Night {
-    input: Stream,
-    reader: Reader,
-    count: usize,
-}
 
 // The input behind a night, the output behind its lines, and its numbers.
 #[derive(Clone, Copy)]
@@ -31,21 +20,8 @@ pub struct Replayed {
     pub five: Five,
 }
 
-// One part more.
-fn read_part(input: Stream, source: &Source, reader: Reader, part: &mut [u8]) -> Night
-    ensures { Took after_part input reader result.input result.reader }
-{
-    let got = streams::read(input, source, part);
-    let n = got.count;
-    let behind = got.stream;
-    Night {
-        input: behind,
-        reader: door::tally::take(reader, &part[..n]),
-        count: n,
-    }
-}
-
 // Tells how far the reading is, where it is time.
+// kept: what may not change: the public `progress::is_due` takes it
 fn tell(progress: Progress, input: Stream, reader: Reader, ended: bool) -> Progress {
     if !progress::is_due(progress, ended) {
         return progress;
@@ -58,39 +34,8 @@ fn tell(progress: Progress, input: Stream, reader: Reader, ended: bool) -> Progr
         ended,
         &mut page,
     );
-    if n <= 160 {
-        streams::write(streams::standard_error(), &page[..n]);
-    }
+    streams::write(streams::standard_error(), page::front(&page, n));
     progress::told(progress)
-}
-
-// Nothing says that a trace ends, and a proved loop has to: it counts its turns down from a number that no run uses up.
-fn read_all(
-    input: Stream,
-    source: &Source,
-    reader: Reader,
-    part: &mut [u8],
-    progress: Progress,
-) -> Night
-    ensures { Took after_part input reader result.input result.reader }
-{
-    let mut night = Night {
-        input,
-        reader,
-        count: 0,
-    };
-    let mut told = progress;
-    let mut turns = u64::MAX;
-    while turns > 0 {
-        night = read_part(night.input, source, night.reader, part);
-        if night.count == 0 {
-            tell(told, night.input, night.reader, true);
-            return night;
-        }
-        turns -= 1;
-        told = tell(told, night.input, night.reader, false);
-    }
-    night
 }
 
 // Reads a night to its end and writes its five lines; where a read failed there are none, since lines of a part could be taken
@@ -100,20 +45,26 @@ pub fn replay_all(input: Stream, source: &Source, progress: Progress, out: Strea
 {
     let mut part = io::large_buffer();
     let mut lines = [0u8; 134];
-    let blank = door::tally::new();
-    let night = read_all(input, source, blank, &mut part, progress);
-    let behind = night.input;
-    let five = door::tally::finish(night.reader);
-    if behind.failed {
-        return Replayed {
-            input: behind,
-            out,
-            five,
-        };
+    let mut progress = progress;
+    let (input, reader) = reading::read_all(
+        input,
+        source,
+        &mut part,
+        door::tally::new(),
+        door::tally::take,
+        |input, reader| {
+            progress = tell(progress, input, reader, false);
+            true
+        },
+    );
+    tell(progress, input, reader, true);
+    let five = door::tally::finish(reader);
+    if input.failed {
+        return Replayed { input, out, five };
     }
     let n = fives::write_five(five, &mut lines);
     Replayed {
-        input: behind,
+        input,
         out: streams::write(out, &lines[..n]),
         five,
     }

@@ -3,9 +3,9 @@
 ghost use Rattle.std.specs.Prelude.{◌≡◌, ◌+◌, ◌≤◌, length, take};
 ghost use Rattle.door.specs.Contract.{reply_of};
 ghost use Rattle.pairs.specs.Cut.{pair_in};
-ghost use Rattle.feed.specs.Feed.{capped, given};
+ghost use Rattle.feed.specs.Feed.{capped};
 ghost use Rattle.night.specs.listing.Tale.{Tale, told_of, differing as differing_of, tells, closing};
-ghost use Rattle.night.specs.listing.Contract.{Sends, Adds, Takes, Reads, Lists};
+ghost use Rattle.night.specs.listing.Contract.{Sends, Adds, Takes, Lists};
 
 use page::front;
 use shown::{put_ending, put_entry, put_page};
@@ -28,12 +28,14 @@ struct Reader {
     state: State,
 }
 
-// The input and the reader behind a part, and how many bytes came.
+// A pair of a night: its number, where it begins, its two records, and today's reply.
 #[derive(Clone, Copy)]
-struct Night {
-    input: Stream,
-    reader: Reader,
-    count: usize,
+struct Entry<'a> {
+    number: u64,
+    offset: u64,
+    request: &'a [u8],
+    reply: &'a [u8],
+    today: &'a [u8],
 }
 
 // The streams behind a night, and its numbers: whole pairs, those asked for whose reply differs, and the bytes that are left.
@@ -50,62 +52,58 @@ pub struct Listed {
 const PAGE: usize = 16384;
 
 // One more where a pair that is asked for differs.
+// kept: here and below whether the replies are alike is what `differing` and `told_of` say it of
+#[tactic(auto, unfolding(crate::specs::listing::Tale::differing, crate::specs::listing::Tale::asked))]
 fn differing(wanted: u64, alike: bool, number: u64, n: u64) -> u64
     ensures { result ≡ differing_of wanted alike number n }
 {
-    if alike {
-        return n;
-    }
-    if wanted == 0 {
-        return capped::more(n);
-    }
-    if wanted == number {
+    if !alike && (wanted == 0 || wanted == number) {
         return capped::more(n);
     }
     n
 }
 
 // Where all that differ are asked for: the line of a pair whose reply is not today's.
-fn tell_entry(
-    unchanged: bool,
-    number: u64,
-    offset: u64,
-    request: &[u8],
-    reply: &[u8],
-    today: &[u8],
-    out: Stream,
-) -> Stream
-    ensures { Sends out (told_of 0 unchanged number offset request.now reply.now today.now) result }
+// kept: likewise
+fn tell_entry(unchanged: bool, pair: Entry<'_>, out: Stream) -> Stream
+    ensures { Sends out (told_of 0 unchanged pair.entry.number pair.entry.offset pair.entry.request.now pair.entry.reply.now pair.entry.today.now) result }
 {
     if unchanged {
         return out;
     }
     let mut line = [0u8; PAGE];
-    let n = put_entry(number, offset, request, reply, today, &mut line);
+    let n = put_entry(
+        pair.number,
+        pair.offset,
+        pair.request,
+        pair.reply,
+        pair.today,
+        &mut line,
+    );
     streams::write(out, front(&line, n))
 }
 
+// kept: likewise
 // What is told of a pair: its line where all that differ are asked for, or its page.
-fn tell(
-    wanted: u64,
-    alike: bool,
-    number: u64,
-    offset: u64,
-    request: &[u8],
-    reply: &[u8],
-    today: &[u8],
-    out: Stream,
-) -> Stream
-    ensures { Sends out (told_of wanted alike number offset request.now reply.now today.now) result }
+fn tell(wanted: u64, alike: bool, pair: Entry<'_>, out: Stream) -> Stream
+    ensures { Sends out (told_of wanted alike pair.entry.number pair.entry.offset pair.entry.request.now pair.entry.reply.now pair.entry.today.now) result }
 {
+    // kept: 0 asks for each one, as `told_of`, `closing` and the contract of `list` have it
     if wanted == 0 {
-        return tell_entry(alike, number, offset, request, reply, today, out);
+        return tell_entry(alike, pair, out);
     }
-    if wanted != number {
+    if wanted != pair.number {
         return out;
     }
     let mut page = [0u8; PAGE];
-    let n = put_page(number, offset, request, reply, today, &mut page);
+    let n = put_page(
+        pair.number,
+        pair.offset,
+        pair.request,
+        pair.reply,
+        pair.today,
+        &mut page,
+    );
     streams::write(out, front(&page, n))
 }
 
@@ -128,37 +126,21 @@ fn ask(wanted: u64, state: State, pair: &[u8]) -> State
     let mut today = [0u8; replies::ROOM];
     let count = door::door_reply(request, &mut today);
     let alike = check::same(&today[..count], reply);
-    let calls = state.calls;
-    let offset = state.offset;
-    let to = state.out;
-    let number = capped::more(calls);
-    let out = tell(
-        wanted,
-        alike,
+    let number = capped::more(state.calls);
+    let entry = Entry {
         number,
-        offset,
+        offset: state.offset,
         request,
         reply,
-        &today[..count],
-        to,
-    );
+        today: &today[..count],
+    };
+    let out = tell(wanted, alike, entry, state.out);
     State {
         calls: number,
-        offset: next_offset(offset, request, reply),
+        offset: next_offset(state.offset, request, reply),
         differ: differing(wanted, alike, number, state.differ),
         out,
     }
-}
-
-// One pair more, where one of `size` bytes was handed on.
-fn gather(wanted: u64, state: State, held: &[u8], size: usize) -> State
-    requires { size ≤ length held.now }
-    ensures { Adds (λ (t : Tale). given (tells reply_of wanted) t held.now size) state result }
-{
-    if size == 0 {
-        return state;
-    }
-    ask(wanted, state, &held[..size])
 }
 
 // The next part, of any length.
@@ -166,86 +148,35 @@ fn take(wanted: u64, reader: Reader, part: &[u8]) -> Reader
     ensures { Takes wanted reader part.now result }
 {
     let mut held = reader.held;
-    let mut rest = reader.rest;
-    let mut state = reader.state;
-    let mut i = 0;
-    while i < part.len() {
-        let turn = feed::next(pairs::LONGEST, &mut held, rest, &part[i..]);
-        state = gather(wanted, state, &held, turn.size);
-        rest = turn.rest;
-        i += turn.bytes;
-    }
+    let (rest, state) = feed::take(&mut held, reader.rest, reader.state, part, |state, pair| {
+        ask(wanted, state, pair)
+    });
     Reader { held, rest, state }
 }
 
-// One part more.
-fn read_part(wanted: u64, input: Stream, source: &Source, reader: Reader, part: &mut [u8]) -> Night
-    ensures { Reads wanted input reader result.input result.reader }
-{
-    let got = streams::read(input, source, part);
-    let n = got.count;
-    let behind = got.stream;
-    Night {
-        input: behind,
-        reader: take(wanted, reader, &part[..n]),
-        count: n,
-    }
+// What is asked for was told, or cannot be written.
+fn is_over(wanted: u64, state: State) -> bool {
+    state.out.failed || wanted != 0 && wanted <= state.calls
 }
 
-// Nothing more came, or what is asked for was told or cannot be written.
-fn is_over(wanted: u64, night: Night) -> bool {
-    let reader = night.reader;
-    let state = reader.state;
-    let out = state.out;
-    if night.count == 0 {
-        return true;
-    }
-    if out.failed {
-        return true;
-    }
-    if wanted == 0 {
-        return false;
-    }
-    wanted <= state.calls
-}
-
-// Nothing says that a trace ends, and a proved loop has to: it counts its turns down from a number that no run uses up.
-fn read_all(wanted: u64, input: Stream, source: &Source, reader: Reader, part: &mut [u8]) -> Night
-    ensures { Reads wanted input reader result.input result.reader }
-{
-    let mut night = Night {
-        input,
-        reader,
-        count: 0,
-    };
-    let mut turns = u64::MAX;
-    while turns > 0 {
-        night = read_part(wanted, night.input, source, night.reader, part);
-        if is_over(wanted, night) {
-            return night;
-        }
-        turns -= 1;
-    }
-    night
-}
-
+// kept: that the last read failed is what `closing` says it of
 // Where the reading ended is told where all that differ are asked for and the last read did not fail.
 fn close(wanted: u64, failed: bool, reader: Reader) -> Stream
     ensures { Sends reader.state.out (closing wanted failed reader.state.offset reader.rest (take reader.rest reader.held)) result }
 {
     let state = reader.state;
-    let out = state.out;
+    // kept: 0 asks for each one, as in `tell`
     if wanted != 0 {
-        return out;
+        return state.out;
     }
     if failed {
-        return out;
+        return state.out;
     }
     let held = reader.held;
     let rest = reader.rest;
     let mut page = [0u8; PAGE];
     let n = put_ending(state.offset, rest, front(&held, rest as usize), &mut page);
-    streams::write(out, front(&page, n))
+    streams::write(state.out, front(&page, n))
 }
 
 // Tells pair `wanted` of a night, or all that differ where that is 0.
@@ -263,15 +194,19 @@ pub fn list(input: Stream, source: &Source, wanted: u64, out: Stream) -> Listed
             out,
         },
     };
-    let night = read_all(wanted, input, source, begun, &mut part);
-    let behind = night.input;
-    let reader = night.reader;
-    let state = reader.state;
+    let (input, reader) = reading::read_all(
+        input,
+        source,
+        &mut part,
+        begun,
+        |reader, part| take(wanted, reader, part),
+        |_, reader| !is_over(wanted, reader.state),
+    );
     Listed {
-        input: behind,
-        out: close(wanted, behind.failed, reader),
-        calls: state.calls,
-        differ: state.differ,
+        input,
+        out: close(wanted, input.failed, reader),
+        calls: reader.state.calls,
+        differ: reader.state.differ,
         rest: reader.rest,
     }
 }

@@ -1,16 +1,17 @@
 -- Laws of putting text on a page, one piece after the other. Assumes nothing.
 use mathlib.Core.Path.{◌≡◌, refl, sym, ap, ◌∙◌}
 use mathlib.Core.List.{List, [], ◌∷◌, ◌++◌, append-nil, append_assoc}
-use Prim.Native.Nat.{ℕ, zero, suc, ◌+◌, ◌-◌, ◌/◌, ◌%◌, ◌≤◌, ◌<◌, min}
-use native.Mathlib.Nat.{zero-min, min-zero, suc-min-suc}
-use native.Mathlib.Numerals.{add-one}
+use Prim.Native.Nat.{ℕ, zero, suc, ◌+◌, ◌-◌, ◌/◌, ◌%◌, ◌≤◌, ◌<◌}
 use native.Mathlib.Omega.{arith}
-use lib.ListN.{length, get_or, take, set, length-append, length-set, length-take}
-use lib.Seq.{sets, take_all, take-suc, take-nil}
+use lib.ListN.{length, take, set, length-append, length-set, length-take}
+use lib.Seq.{sets, take-nil}
 use borrow.Author.Tests.{lt-ltb, le-ltb}
 use Rattle.spell.specs.Decimal.{Written}
-use Rattle.spell.proofs.Writing.{sets-append, sets_more, front_read}
+use Rattle.spell.proofs.Writing.{sets-append, front_read, copied}
+use borrow.Rule.Slice.PartMut.{put_mid}
 use Rattle.page.specs.Page.{fitting, Puts, hex_digit, byte_shown}
+use Rattle.page.specs.declared.Paper.{Paper}
+use Rattle.page.specs.Paper.{Adds}
 
 length-sets : (l : List ℕ) (i : ℕ) (vs : List ℕ) → length (sets l i vs) ≡ length l
 length-sets l i [] = refl
@@ -57,49 +58,25 @@ module _ (page : List ℕ) (at : ℕ) (a page' : List ℕ) (m : ℕ) (b page'' :
         ∙ ap (sets page at) (sym fit);
   }
 
--- a loop over a text: i bytes of it are put
-pub record Going (text page : List ℕ) (at : ℕ) (page' : List ℕ) (i end : ℕ) : Type 0 where
-  pub upto : i ≤ length text
-  pub room : i ≤ length page - at
-  pub size_is : length page' ≡ length page
-  pub ends : end ≡ at + i
-  pub holds : page' ≡ sets page at (take i text)
+no_bytes : (l : List ℕ) → length l ≡ 0 → l ≡ []
+no_bytes [] e = refl
+no_bytes (b ∷ l) e = absurd (omega arith)
 
-pub going-none : (text page : List ℕ) (at : ℕ) → Going text page at page 0 at
-going-none text page at =
-    record { upto = omega arith; room = omega arith; size_is = refl; ends = omega arith; holds = refl }
+-- as much of a text as there is room for: nothing, or some of it, copied to its place
+module _ (page : List ℕ) (at : ℕ) (text fits : List ℕ) (is : fits ≡ take (length page - at) text) where
+  pub puts-nowhere : length fits ≡ 0 → Puts page at text page at
+  unfolding fitting
+  puts-nowhere e =
+      let none = no_bytes (take (length page - at) text) (ap length (sym is) ∙ e) in
+      record { ends = rw none (omega arith); holds = rw none refl }
 
-module _ (text page : List ℕ) (at : ℕ) (page' : List ℕ) (i end : ℕ) (g : Going text page at page' i end) where
-  pub going_more : i < length text → end < length page' → Going text page at (set page' end (get_or text i 0)) (i + 1) (end + 1)
-  going_more h l = record {
-    upto = omega arith;
-    room = omega (arith, g.ends, g.size_is);
-    size_is = length-set page' end _ ∙ g.size_is;
-    ends = omega (arith, g.ends);
-    holds =
-        let place : end ≡ at + length (take i text) = omega (arith, g.ends, g.upto, length-take i text) in
-        let more : take (i + 1) text ≡ take i text ++ (get_or text i 0 ∷ []) = rw (add-one i) (take-suc text i 0 h) in
-        ap (λ (q : List ℕ). set q end (get_or text i 0)) g.holds
-        ∙ ap (λ (k : ℕ). set (sets page at (take i text)) k (get_or text i 0)) place
-        ∙ sym (sets_more page at (take i text) (get_or text i 0)) ∙ ap (sets page at) (sym more);
+  pub puts-copied : (now : List ℕ) → (length fits ≡ 0 → ⊥) → now ≡ fits
+      → Puts page at text (put_mid at (at + length fits - at) page now) (at + length fits)
+  unfolding fitting
+  puts-copied now some e = record {
+    ends = ap (λ l. at + length l) is;
+    holds = copied fits page now at (omega (arith, ap length is, length-take (length page - at) text)) e ∙ ap (sets page at) is;
   }
-
-  pub going-full : length page' ≤ end → Puts page at text page' end
-  unfolding fitting
-  going-full l =
-      let all : i ≡ length page - at = omega (arith, g.ends, g.room, g.size_is) in record {
-        ends = omega (arith, g.ends, g.upto, g.room, all, length-take (length page - at) text);
-        holds = g.holds ∙ ap (λ (k : ℕ). sets page at (take k text)) all;
-      }
-
-  pub going-all : length text ≤ i → Puts page at text page' end
-  unfolding fitting
-  going-all l =
-      record {
-        ends = omega (arith, g.ends, g.upto, g.room, length-take (length page - at) text);
-        holds =
-            g.holds ∙ ap (sets page at) (take_all i text l ∙ sym (take_all (length page - at) text (omega (arith, g.room))));
-      }
 
 -- what was put on an empty page is read there
 module _ (page text page' : List ℕ) (end : ℕ) (w : Puts page 0 text page' end) where
@@ -122,34 +99,46 @@ written-size most bytes l l' n w m =
     let ended : n ≡ length bytes = omega (arith, w.ends) in
     ended ∙ ap length (sym (written_read most bytes l l' n w m))
 
+-- the same of a page and its place together
+pub adds_none : (p : Paper) → Adds p [] p
+adds_none p = record { same = refl; put = puts_none p.bytes.now p.at }
+
+pub adds_then : (p : Paper) (a : List ℕ) (q : Paper) (b : List ℕ) (r : Paper) → Adds p a q → Adds q b r → Adds p (a ++ b) r
+adds_then p a q b r v w = record {
+  same = w.same ∙ v.same;
+  put = puts_then p.bytes.now p.at a q.bytes.now q.at b r.bytes.now r.at v.put w.put;
+}
+
 -- another way to say the same text
-pub puts-same : (page : List ℕ) (at : ℕ) (a page' : List ℕ) (end : ℕ) (b : List ℕ) → Puts page at a page' end → a ≡ b → Puts page at b page' end
-puts-same page at a page' end b w e = rw (← e) w
+pub adds-same : (p : Paper) (a : List ℕ) (q : Paper) (b : List ℕ) → Adds p a q → a ≡ b → Adds p b q
+adds-same p a q b w e = rw (← e) w
+
+-- what stands on the page where the paper's borrow of it ends: its name is the page's, so the bytes are
+pub adds-end : (p : Paper) (a : List ℕ) (q : Paper) (page : List ℕ) → Adds p a q → (p.bytes.ghost_name ≡ q.bytes.ghost_name → page ≡ q.bytes.now)
+    → Puts p.bytes.now p.at a page q.at
+adds-end p a q page w e = rw (e (sym w.same)) w.put
 
 -- a text of which a part is put, and what is left of it: for a loop
-pub record Onward (all page : List ℕ) (at : ℕ) (page' : List ℕ) (end : ℕ) (left : List ℕ) : Type 0 where
+pub record Onward (all : List ℕ) (old new : Paper) (left : List ℕ) : Type 0 where
   pub done : List ℕ
-  pub put : Puts page at done page' end
+  pub put : Adds old done new
   pub whole : done ++ left ≡ all
-  pub size_is : length page' ≡ length page
 
-module _ (all page : List ℕ) (at : ℕ) where
-  pub onward-none : Onward all page at page at all
-  onward-none = record { done = []; put = puts_none page at; whole = refl; size_is = refl }
+module _ (all : List ℕ) (old : Paper) where
+  pub onward-none : Onward all old old all
+  onward-none = record { done = []; put = adds_none old; whole = refl }
 
-  module _ (page' : List ℕ) (end : ℕ) (left : List ℕ) (o : Onward all page at page' end left) where
-    pub onward-more : (piece page'' : List ℕ) (end' : ℕ) (left' : List ℕ) → Puts page' end piece page'' end' → left ≡ piece ++ left'
-        → Onward all page at page'' end' left'
-    onward-more piece page'' end' left' w e = record {
+  module _ (now : Paper) (left : List ℕ) (o : Onward all old now left) where
+    pub onward-more : (piece : List ℕ) (new : Paper) (left' : List ℕ) → Adds now piece new → left ≡ piece ++ left' → Onward all old new left'
+    onward-more piece new left' w e = record {
       done = o.done ++ piece;
-      put = puts_then page at o.done page' end piece page'' end' o.put w;
+      put = adds_then old o.done now piece new o.put w;
       whole = append_assoc o.done piece left' ∙ ap (λ (l : List ℕ). o.done ++ l) (sym e) ∙ o.whole;
-      size_is = puts-size page' end piece page'' end' w ∙ o.size_is;
     }
 
-    pub onward-all : left ≡ [] → Puts page at all page' end
+    pub onward-all : left ≡ [] → Adds old all now
     onward-all e =
-        puts-same page at o.done page' end all o.put
+        adds-same old o.done now all o.put
         (sym (append-nil o.done) ∙ ap (λ (l : List ℕ). o.done ++ l) (sym e) ∙ o.whole)
 
 -- hexadecimal digits
@@ -168,9 +157,3 @@ digits_are n a b c d p q r s = cc
 pub byte-is : (before n a b : ℕ) → a ≡ hex_digit (n / 16) → b ≡ hex_digit n → before ∷ a ∷ b ∷ [] ≡ byte_shown before n
 unfolding byte_shown
 byte-is before n a b p q = cc
-
--- no more of a page than there is
-pub take-least : (n : ℕ) (s : List ℕ) → take (min n (length s)) s ≡ take n s
-take-least zero s = rw (zero-min (length s))
-take-least (suc n) [] = rw (min-zero (suc n))
-take-least (suc n) (x ∷ s) = rw (suc-min-suc n (length s)) (ap (λ t. x ∷ t) (take-least n s))

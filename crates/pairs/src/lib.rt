@@ -9,6 +9,7 @@ ghost use Rattle.pairs.specs.Cut.{pair_size};
 // The greatest length of a record.
 pub const LONGEST: usize = 128;
 
+#[tactic(auto, unfolding(wire::specs::Start::length_field))]
 fn length_field(bytes: &[u8]) -> usize
     ensures { (result ≡ length_field bytes.now) × (result < 65536) }
 {
@@ -16,42 +17,32 @@ fn length_field(bytes: &[u8]) -> usize
 }
 
 // The record that starts here, as far as it is there, and what stands behind it.
+#[tactic(auto, unfolding(wire::specs::Start::record_in))]
 pub fn record_in(bytes: &[u8]) -> &[u8]
     ensures { result.now ≡ record_in bytes.now }
 {
-    let n = length_field(bytes);
-    if n < bytes.len() {
-        return &bytes[..n];
-    }
-    bytes
+    &bytes[..length_field(bytes).min(bytes.len())]
 }
 
+#[tactic(auto, unfolding(wire::specs::Start::behind))]
 pub fn behind(bytes: &[u8]) -> &[u8]
     ensures { result.now ≡ behind_in bytes.now }
 {
-    let n = length_field(bytes);
-    let size = bytes.len();
-    if n < size {
-        return &bytes[n..];
-    }
-    &bytes[size..]
+    &bytes[length_field(bytes).min(bytes.len())..]
 }
 
 // A whole record starts here.
+#[tactic(auto, unfolding(wire::specs::Start::starts_record, wire::specs::Start::is_length))]
 pub fn starts_record(most: usize, bytes: &[u8]) -> bool
     ensures { result ≡ starts_record most bytes.now }
 {
     let n = length_field(bytes);
-    if n < 8 {
-        return false;
-    }
-    if most < n {
-        return false;
-    }
-    n <= bytes.len()
+    8 <= n && n <= most && n <= bytes.len()
 }
 
 // How many bytes the whole pair is that starts here; 0 where none does.
+// kept: 0 for none, as `pair_size` in specs/ has it, by which `starts_pair` and the laws of cutting speak
+#[tactic(auto, unfolding(crate::specs::Cut::pair_size, crate::specs::Cut::starts_pair))]
 pub fn pair_size(most: usize, bytes: &[u8]) -> usize
     ensures { result ≡ pair_size most bytes.now }
 {

@@ -10,6 +10,7 @@ pub enum Part {
 }
 
 // number and place as 01 has them (rule Refusals); how many numerators there are, and the numerators: plus zero where unused.
+// kept: the C interface has the numbers, and `Shows` in specs/Contract.antt speaks of each
 #[derive(Clone, Copy)]
 pub struct Card {
     pub number: u32,

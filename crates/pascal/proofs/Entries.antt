@@ -1,17 +1,15 @@
 -- What is answered: a number of the table, which passes the test of a triangle and so holds the binomial coefficients, and at most the
 -- greatest, by a test of the rows, each made from the one above it. Callers cite the bound for their own sums. Assumes nothing.
 use mathlib.Core.Path.{◌≡◌, refl, sym, ◌∙◌, ap, ap₂}
-use mathlib.Core.Bool.{Bool, true, false, cond, ◌||◌}
+use mathlib.Core.Bool.{Bool, true, false, cond}
 use mathlib.Core.List.{List, [], ◌∷◌}
 use mathlib.Core.Logic.{◌⊎◌, inl, inr, ⊎_elim}
-use Prim.Native.Nat.{ℕ, zero, suc, ◌+◌, ◌-◌, ◌/◌, ◌≤◌, ◌<◌}
+use Prim.Native.Nat.{ℕ, zero, suc, ◌+◌, ◌≤◌, ◌<◌}
 use native.Mathlib.Nat.{zero-add}
 use native.Mathlib.Decide.{dec_le}
 use native.Mathlib.Omega.{arith}
-use lib.Dec.{T, eqb, leb, leb→le}
+use lib.Dec.{T, leb, leb→le}
 use lib.ListN.{length, get_or, get_or-eq_default}
-use mir.Val.{has_key}
-use types.Run.{OneOf, hit}
 use borrow.Author.Tests.{le-leb, lt-leb}
 use Rattle.whole.specs.Choose.{choose}
 use Rattle.whole.proofs.Binomial.{choose-above}
@@ -51,51 +49,12 @@ pub told : (last n k at x : ℕ) → last ≤ last_row → n ≤ last → k ≤ 
 told last n k at x b h l e r =
     r ∙ ap (λ y. get_or table y 0) e ∙ table_is n k (omega arith) l ∙ sym (entry_in last n k h)
 
--- what an arm of a `match` on the place answers, and what is answered past the end
+-- what an arm of a `match` on the place would answer, and what is answered past the end (docs/landings/14.md names both)
 pub arm : {x k : ℕ} → x ≡ k → get_or table k 0 ≡ get_or table x 0
 arm e = sym (ap (λ y. get_or table y 0) e)
 
 pub past : (x : ℕ) → length table ≤ x → 0 ≡ get_or table x 0
 past x h = sym (get_or-eq_default table 0 h)
-
--- ---- the arms of such a `match`, the last first
--- x is at none of them; and the test that it is at one
-abbrev Missed : ℕ → List (List ℕ) → Type 0
-Missed x [] = Unit {0}
-Missed x (keys ∷ l) = Missed x l × (OneOf keys x → ⊥)
-
-abbrev found : List (List ℕ) → ℕ → Bool
-found [] x = false
-found (keys ∷ l) x = has_key keys x || found l x
-
-missed : (x : ℕ) (l : List (List ℕ)) → T (found l x) → Missed x l → ⊥
-missed x [] t m = absurd t
-missed x (keys ∷ l) t m = by (has_key keys x) (λ h. hit keys x h) (λ f. missed x l f m.0) t
-  where
-    by : (b : Bool) → (T b → OneOf keys x) → (T (found l x) → ⊥) → T (b || found l x) → ⊥
-    by true h n t = m.1 (h tt)
-    by false h n t = n t
-
--- a row's, from its ends inward, two neighbours apart; and those of all rows below n
-abbrev ends : ℕ → ℕ → List (List ℕ) → List (List ℕ)
-ends low high l =
-    cond (eqb low high) ((low ∷ []) ∷ l) (cond (eqb (low + 1) high) ((high ∷ []) ∷ (low ∷ []) ∷ l) ((low ∷ high ∷ []) ∷ l))
-
-abbrev inward : ℕ → ℕ → ℕ → List (List ℕ) → List (List ℕ)
-inward zero low high l = l
-inward (suc n) low high l = inward n (low + 1) (high - 1) (ends low high l)
-
-abbrev below : ℕ → List (List ℕ)
-below zero = []
-below (suc n) = inward (n / 2 + 1) (place_of n 0) (place_of n n) (below n)
-
--- a place at none of them is past them all, by a test that each place has one
-pub beyond : (x rows cells : ℕ) → T (each cells (found (below rows))) → Missed x (below rows) → cells ≤ x
-beyond x rows cells t m =
-    ⊎_elim
-    (λ (h : cells ≤ x). h)
-    (λ (l : x < cells). absurd (missed x (below rows) (each_at cells (found (below rows)) t x l) m))
-    (order cells x)
 
 -- ---- the rows
 -- the sums of neighbours in a ∷ r, and then the last number

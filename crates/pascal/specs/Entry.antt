@@ -6,12 +6,9 @@ use Rattle.whole.specs.Choose.{choose}
 abbrev pub last_row : ℕ
 last_row = 24
 
--- the last row of path weights, and how many numbers the rows up to it have
+-- the last row of path weights
 abbrev pub early_row : ℕ
 early_row = 6
-
-abbrev pub early_cells : ℕ
-early_cells = 28
 
 -- the greatest number of the table, in the middle of its last row
 abbrev pub largest : ℕ

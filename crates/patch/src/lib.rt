@@ -14,25 +14,8 @@ ghost use Rattle.patch.specs.Writing.{Fitting, Fits, Put, Wrote};
 
 use crate::patch_sums::Place;
 use request::Answer;
-use request::units::Travel;
 use two_words::Words;
 use whole::Num;
-
-fn put_exact(exact: &mut [i64], R: usize, x: Num)
-    requires { R < length exact.old }
-    ensures { exact.new ≡ set exact.old R x.0 }
-{
-    let v = x.0;
-    exact[R] = v;
-}
-
-fn put_point(points: &mut [i32], R: usize, t: Travel)
-    requires { R < length points.old }
-    ensures { points.new ≡ set points.old R t.0 }
-{
-    let v = t.0;
-    points[R] = v;
-}
 
 // A number by two words as one signed number.
 fn single(n: Words) -> Num
@@ -47,18 +30,15 @@ fn single(n: Words) -> Num
 }
 
 // Writes what stands at place R, that of the index `at`: its numerator, and its rounded point.
+// kept: the C interface: two arrays are lent, and the clause of `patch` names each.
 fn write_place(sums: &[i64], n: usize, at: Place, R: usize, exact: &mut [i64], points: &mut [i32])
     requires { Fits sums.now n (index_of at) × (R < length exact.old) × (R < length points.old) }
     ensures { Put sums.now n (index_of at) R exact.old points.old exact.new points.new }
 {
-    let v = two_words::joined(sums, crate::patch_sums::key(at));
-    let d = crate::patch_sums::multinomial(at);
-    put_exact(exact, R, single(v));
-    put_point(
-        points,
-        R,
-        request::units::travel_of(two_words::rounded(v, d, n)),
-    );
+    let v = two_words::joined(sums, at.key());
+    let point = two_words::rounded(v, at.multinomial(), n);
+    exact[R] = single(v).0;
+    points[R] = request::units::travel_of(point).0;
 }
 
 // Writes every place of a patch of degree L, whose outer degree is n.
@@ -67,11 +47,9 @@ fn write_all(sums: &[i64], n: usize, L: usize, count: usize, exact: &mut [i64], 
     ensures { Wrote sums.now n L count exact.old points.old exact.new points.new }
 {
     let mut at = Place { i: 0, j: 0, k: L };
-    let mut R = 0;
-    while R < count {
+    for R in 0..count {
         write_place(sums, n, at, R, exact, points);
-        at = crate::patch_sums::next(at);
-        R += 1;
+        at = at.next();
     }
 }
 
@@ -90,7 +68,7 @@ pub fn patch(
         exact.old points.old result exact.new points.new }
 {
     let answer = crate::patch_judge::judge(n, N, surface, path, exact.len(), points.len());
-    if answer.number != 0 {
+    if answer.is_refused() {
         return answer;
     }
     let outer = n as usize;

@@ -16,51 +16,44 @@ pub struct Place {
     pub k: usize,
 }
 
-// One less, and 0 for 0.
-fn less(x: usize) -> usize
-    ensures { result ≡ x - 1 }
-{
-    if x == 0 {
-        return 0;
+// What an index of a degree up to 9 gives.
+impl Place {
+    // The index after it in 01's triangular order (rule Order of the numbers): j is one more, or a row ends.
+    // kept: what may not change: after (9, 0, 0) comes (10, 0, 0) by `next_of`, so that the bound is no invariant of the type.
+    pub fn next(self) -> Place
+        requires { whole self ≤ most_longest }
+        ensures { index_of result ≡ next_of (index_of self) }
+    {
+        if self.k == 0 {
+            return Place {
+                i: self.i + 1,
+                j: 0,
+                k: self.j.saturating_sub(1),
+            };
+        }
+        Place {
+            i: self.i,
+            j: self.j + 1,
+            k: self.k - 1,
+        }
     }
-    x - 1
-}
 
-// The index after it in 01's triangular order (rule Order of the numbers): j is one more, or a row ends.
-pub fn next(at: Place) -> Place
-    requires { whole at ≤ most_longest }
-    ensures { index_of result ≡ next_of (index_of at) }
-{
-    let k = less(at.j);
-    if at.k == 0 {
-        return Place {
-            i: at.i + 1,
-            j: 0,
-            k,
-        };
+    // Which place of the sums an index has.
+    pub fn key(self) -> usize
+        requires { whole self ≤ most_longest }
+        ensures { result ≡ key_of (index_of self) }
+    {
+        10 * self.i + self.j
     }
-    Place {
-        i: at.i,
-        j: at.j + 1,
-        k: at.k - 1,
+
+    // (i+j+k)!/(i!·j!·k!), by two binomials.
+    pub fn multinomial(self) -> u64
+        requires { whole self ≤ most_longest }
+        ensures { (result ≡ multinomial (index_of self)) × (result ≤ 2 ^ 18) }
+    {
+        let rest = self.j + self.k;
+        pascal::binomial(self.i + rest, self.i) * pascal::binomial(rest, self.j)
     }
-}
-
-// Which place of the sums an index has.
-pub fn key(at: Place) -> usize
-    requires { whole at ≤ most_longest }
-    ensures { result ≡ key_of (index_of at) }
-{
-    10 * at.i + at.j
-}
-
-// (i+j+k)!/(i!·j!·k!), by two binomials.
-pub fn multinomial(at: Place) -> u64
-    requires { whole at ≤ most_longest }
-    ensures { (result ≡ multinomial (index_of at)) × (result ≤ 2 ^ 18) }
-{
-    let rest = at.j + at.k;
-    pascal::binomial(at.i + rest, at.i) * pascal::binomial(rest, at.j)
 }
 
 // The terms of a patch: domain point c weighs its multinomial, and its key is that of its index.
@@ -70,13 +63,11 @@ fn fill(N: usize, path: &[i32], t: &mut [u32; 40])
 {
     let count = crate::patch_judge::places(N);
     let mut at = Place { i: 0, j: 0, k: N };
-    let mut c = 0;
-    while c < count {
+    for c in 0..count {
         let a = request::units::path_size_at(path, 3 * c);
         let b = request::units::path_size_at(path, 3 * c + 1);
-        sums::store_term(t, c, key(at) as u64, multinomial(at), a, b);
-        at = next(at);
-        c += 1;
+        sums::store_term(t, c, at.key() as u64, at.multinomial(), a, b);
+        at = at.next();
     }
 }
 
@@ -85,6 +76,7 @@ pub fn numerators(n: usize, N: usize, surface: &[i32], path: &[i32], sums: &mut 
     requires { Composable (patch_of n N surface.now path.now) × (sums.old ≡ replicate limb_count (pos 0)) }
     ensures { Summed (patch_of n N surface.now path.now) sums.new }
 {
+    // kept: the new form is no plainer: n is a degree, and a net of degree 0 has one number.
     if n == 0 {
         limbs::settle(
             sums,

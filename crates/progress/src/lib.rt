@@ -2,13 +2,15 @@
 // every five seconds elsewhere.
 #![tactic(auto)]
 
+ghost use Rattle.std.specs.Prelude.{◌≡◌};
+
 use std::io::IsTerminal;
 use std::rt::{Clock, HostRuntime};
 use streams::Source;
 use streams::source::{runtime, size_of};
 
 // Whether anything is to be told, whether standard error is a terminal, how many bytes there are (0: not known), when it was told
-// last, and the handle by which the clock is read.
+// last, and the handle by which the clock is read. kept: the public `streams::source::size_of` answers 0 so.
 #[derive(Clone, Copy)]
 pub struct Progress {
     wanted: bool,
@@ -20,10 +22,7 @@ pub struct Progress {
 
 // Seconds since a day long ago.
 fn seconds(rt: HostRuntime) -> u64 {
-    match rt.since_1970() {
-        Ok(time) => time.as_secs(),
-        Err(_) => 0,
-    }
+    rt.since_1970().map_or(0, |time| time.as_secs())
 }
 
 pub fn begin(wanted: bool, input: &Source) -> Progress {
@@ -37,30 +36,42 @@ pub fn begin(wanted: bool, input: &Source) -> Progress {
     }
 }
 
+// A clock that was set back counts as late.
 fn is_late(progress: Progress, now: u64) -> bool {
-    if now < progress.last {
-        return true;
-    }
-    if progress.terminal {
-        return now - progress.last >= 1;
-    }
-    now - progress.last >= 5
+    let pause = if progress.terminal { 1 } else { 5 };
+    now.checked_sub(progress.last)
+        .is_none_or(|passed| passed >= pause)
 }
 
 // Whether it is time; at the end it always is.
 pub fn is_due(progress: Progress, ended: bool) -> bool {
-    if !progress.wanted {
-        return false;
-    }
-    if ended {
-        return true;
-    }
-    is_late(progress, seconds(progress.rt))
+    progress.wanted && (ended || is_late(progress, seconds(progress.rt)))
 }
 
-// It was told now.
-pub fn told(progress: Progress) -> Progress {
-    let mut next = progress;
-    next.last = seconds(progress.rt);
-    next
+// It was told now; nothing else changes.
+pub fn told(progress: Progress) -> Progress
+    ensures { result ≡ record progress { last = result.last } }
+{
+    Progress {
+        last: seconds(progress.rt),
+        ..progress
+    }
+}
+
+// The most bytes of a line's words, and the room of the line: its words, a blank, a number of 64 bits and the line's end.
+const WORDS: usize = 40;
+
+const ROOM: usize = WORDS + 22;
+
+// Tells on a line how many bytes were read, behind these words as far as there is room, where it is time to.
+pub fn tell(progress: Progress, what: &[u8], count: u64) -> Progress
+    ensures { result ≡ record progress { last = result.last } }
+{
+    if !is_due(progress, false) {
+        return progress;
+    }
+    let mut line = [0u8; ROOM];
+    let n = spell::write_named(&what[..what.len().min(WORDS)], count, &mut line, 0);
+    streams::write(streams::standard_error(), &line[..n]);
+    told(progress)
 }

@@ -4,17 +4,49 @@ use mathlib.Core.Bool.{true, false, false≢true}
 use mathlib.Core.List.{List, [], ◌∷◌, ◌++◌, append-nil, append_assoc}
 use Prim.Native.Nat.{ℕ, ◌≤◌}
 use lib.ListN.{length, take}
+use Rattle.std.specs.List.{FoldsTo}
 use Rattle.spell.specs.Decimal.{Told}
 use Rattle.spell.proofs.Writing.{told-front}
 use Rattle.feed.specs.Parts.{uncut, after_all}
 use Rattle.streams.specs.declared.Stream.{Stream}
 use Rattle.streams.specs.Stream.{Through, through-none, through-more, Wrote}
-use Rattle.reading.specs.Parts.{Took, Tells}
+use Rattle.reading.specs.Parts.{Reads, Took, Tells}
 
 uncut-more : (a b : List (List ℕ)) → uncut (a ++ b) ≡ uncut a ++ uncut b
 unfolding uncut
 uncut-more [] b = refl
 uncut-more (x ∷ a) b = rw (uncut-more a b) (sym (append_assoc x (uncut a) (uncut b)))
+
+-- nothing was read yet; and one part more
+module _ {S : Type 0} (takes : S → List ℕ → S → Type 0) where
+  pub reads_none : (i : Stream) (s : S) → Reads takes i s i s
+  unfolding uncut
+  reads_none i s = record { parts = []; went = through-none i; taken = refl }
+
+  folds_more : (s : S) (parts : List (List ℕ)) {m : S} {part : List ℕ} {s' : S} → FoldsTo takes s parts m → takes m part s'
+      → FoldsTo takes s (parts ++ part ∷ []) s'
+  folds_more s [] {m} {part} {s'} e t = (s', rw e t, refl)
+  folds_more s (p ∷ parts) f t = (f.0, f.1, folds_more f.0 parts f.2 t)
+
+  pub reads_more : {i : Stream} {s : S} {i' : Stream} {m : S} {part : List ℕ} {i'' : Stream} {s' : S} → Reads takes i s i' m
+      → Through i' part i'' → takes m part s' → Reads takes i s i'' s'
+  unfolding uncut
+  reads_more {i} {s} {i'} {m} {part} {i''} r w t = record {
+    parts = r.parts ++ part ∷ [];
+    went = rw (uncut-more r.parts (part ∷ []), append-nil) (through-more i (uncut r.parts) i' part i'' r.went w);
+    taken = folds_more s r.parts r.taken t;
+  }
+
+  -- where a part is taken by a function
+  module _ (step : S → List ℕ → S) (by : (s : S) (part : List ℕ) (s' : S) → takes s part s' → s' ≡ step s part) where
+    by-function : (s : S) (parts : List (List ℕ)) (s' : S) → FoldsTo takes s parts s' → s' ≡ after_all step s parts
+    unfolding after_all
+    by-function s [] s' e = sym e
+    by-function s (part ∷ parts) s' f =
+        by-function f.0 parts s' f.2 ∙ ap (λ (t : S). after_all step t parts) (by s part f.0 f.1)
+
+    pub took : {i : Stream} {s : S} {i' : Stream} {s' : S} → Reads takes i s i' s' → Took step i s i' s'
+    took {s = s} {s' = s'} r = record { parts = r.parts; went = r.went; after = by-function s r.parts s' r.taken }
 
 module _ {S : Type 0} (step : S → List ℕ → S) where
   after_more : (s : S) (a b : List (List ℕ)) → after_all step s (a ++ b) ≡ after_all step (after_all step s a) b

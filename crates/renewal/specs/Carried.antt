@@ -9,8 +9,7 @@ use Rattle.streams.specs.Stream.{Through, Wrote}
 use Rattle.renewal.specs.declared.converter.Converter.{Converter}
 use Rattle.aging.specs.Convert.{converted, changed, refuses}
 use Rattle.renewal.specs.converter.Put.{after_part, put_parts}
-use Rattle.renewal.specs.declared.Looked.{Looked}
-use Rattle.renewal.specs.declared.Renewed.{Renewed}
+use Rattle.renewal.specs.declared.Outcome.{Outcome}
 
 pub record Carries (wanted : Bool) (input out : Stream) (first : Converter) (input' out' : Stream) (last : Converter) : Type 0 where
   pub parts : List (List ℕ)
@@ -20,7 +19,7 @@ pub record Carries (wanted : Bool) (input out : Stream) (first : Converter) (inp
   pub stayed : wanted ≡ false → out' ≡ out
 
 -- a night that was looked through: "no byte of trace" went to the output
-pub record Looks (input out : Stream) (r : Looked) : Type 0 where
+pub record Looks (input out : Stream) (r : Outcome) : Type 0 where
   pub bytes : List ℕ
   pub went : Through input bytes r.input
   pub stayed : r.out ≡ out
@@ -28,7 +27,7 @@ pub record Looks (input out : Stream) (r : Looked) : Type 0 where
   pub changed_is : r.changed ≡ capped (changed bytes)
 
 -- a night that was converted: the converted trace of the bytes that were read went to the output, where no write failed
-pub record Renews (input out : Stream) (r : Renewed) : Type 0 where
+pub record Renews (input out : Stream) (r : Outcome) : Type 0 where
   pub bytes : List ℕ
   pub went : Through input bytes r.input
   pub wrote : Wrote out (converted bytes) r.out

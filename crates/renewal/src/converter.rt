@@ -57,13 +57,12 @@ fn gather(changed: u64, held: &[u8], size: usize) -> u64
     requires { size ≤ length held.now }
     ensures { result ≡ given counts changed held.now size }
 {
-    if size == 0 {
-        return changed;
+    // kept: the contract of `feed::next`: no pair is handed on where the size is 0
+    if size != 0 && ageless(pairs::record_in(&held[..size])) {
+        capped::more(changed)
+    } else {
+        changed
     }
-    if ageless(pairs::record_in(&held[..size])) {
-        return capped::more(changed);
-    }
-    changed
 }
 
 // The length of a request with its age.
@@ -79,14 +78,11 @@ fn put_aged(request: &[u8], out: &mut [u8], at: usize) -> usize
     ensures { Writes (aged request.now) out.old at out.new result }
 {
     let size = aged_length(request);
-    let mut head = [0u8; 10];
-    head[0] = (size % 256) as u8;
-    head[1] = (size / 256) as u8;
-    head[2] = AGED_KIND;
-    head[4] = request[4];
-    head[5] = request[5];
-    head[6] = request[6];
-    head[7] = request[7];
+    let low = (size % 256) as u8;
+    let high = (size / 256) as u8;
+    let head = [
+        low, high, AGED_KIND, 0, request[4], request[5], request[6], request[7], 0, 0,
+    ];
     let next = spell::write_bytes(&head, out, at);
     spell::write_bytes(&request[8..], out, next)
 }
@@ -119,6 +115,7 @@ fn put_turn(held: &[u8], turn: Handed, before: u64, b: u8, out: &mut [u8], at: u
     ensures { Writes (turn_out held.now turn before b) out.old at out.new result }
 {
     let size = turn.size;
+    // kept: the contract of `feed::next`, as above
     if size != 0 {
         return put_pair(&held[..size], out, at);
     }
@@ -160,6 +157,7 @@ fn fill(converter: Converter, part: &[u8], out: &mut [u8]) -> Taken
     let mut changed = converter.changed;
     let mut i = 0;
     let mut at = 0;
+    // kept: a turn takes one byte or a whole pair, so this is no `for`
     while i < part.len() {
         let turn = feed::next(FORMER_LONGEST, &mut held, rest, &part[i..]);
         at = put_turn(&held, turn, rest, part[i], out, at);
@@ -183,14 +181,9 @@ fn fill(converter: Converter, part: &[u8], out: &mut [u8]) -> Taken
 fn settled(converter: Converter) -> Converter
     ensures { result ≡ after_part converter [] }
 {
-    let mut held = converter.held;
-    let rest = converter.rest;
-    feed::settle(&mut held, rest);
-    Converter {
-        held,
-        rest,
-        changed: converter.changed,
-    }
+    let mut next = converter;
+    feed::settle(&mut next.held, next.rest);
+    next
 }
 
 // The next part, of which at most 65,536 bytes are taken. What they put out is written to the front of `out`; where that has not the
@@ -205,21 +198,14 @@ pub fn take(converter: Converter, part: &[u8], out: &mut [u8]) -> Taken
             count: 0,
         };
     }
-    if PART < part.len() {
-        return fill(converter, &part[..PART], out);
-    }
-    fill(converter, part, out)
+    fill(converter, &part[..PART.min(part.len())], out)
 }
 
 // The bytes that are kept, of which there are `rest` or more than an array holds.
 fn kept(held: &[u8], rest: u64) -> &[u8]
     ensures { result.now ≡ take rest held.now }
 {
-    let n = rest as usize;
-    if n < held.len() {
-        return &held[..n];
-    }
-    held
+    &held[..held.len().min(rest as usize)]
 }
 
 // What is still kept when the trace has ended, at the front of `out`, and how many bytes that is. Under 256 bytes of room nothing
@@ -227,15 +213,13 @@ fn kept(held: &[u8], rest: u64) -> &[u8]
 pub fn last(converter: Converter, out: &mut [u8]) -> usize
     ensures { Told held_room (last_out (feed_of converter)) out.old result out.new }
 {
-    let held = converter.held;
-    let rest = converter.rest;
     if out.len() < 256 {
         return 0;
     }
-    if has_ended(rest) {
+    if has_ended(converter.rest) {
         return 0;
     }
-    spell::write_bytes(kept(&held, rest), out, 0)
+    spell::write_bytes(kept(&converter.held, converter.rest), out, 0)
 }
 
 // Not over the greatest length of a record that is read today.
@@ -246,35 +230,27 @@ fn fits_today(n: u64) -> bool
 }
 
 // A record's length stands here, and it is 127 or 128.
+#[tactic(auto, unfolding(aging::specs::Convert::starts_long, wire::specs::Start::length_field))]
 fn starts_long(bytes: &[u8]) -> bool
     ensures { result ≡ starts_long bytes.now }
 {
     let n = wire::word_at(bytes, 0);
-    if bytes.len() < 2 {
-        return false;
-    }
-    if n < 127 {
-        return false;
-    }
-    fits_today(n)
+    2 <= bytes.len() && 127 <= n && fits_today(n)
 }
 
+// The old reading ended at such a length, of the request that starts here or of the reply behind it.
+// kept: of one shape with `waits` of crate salvaging, as the definitions of both are; one function would be longer than its two bodies
+#[tactic(auto, unfolding(aging::specs::Convert::ends_long))]
 fn ends_long(left: &[u8]) -> bool
     ensures { result ≡ ends_long left.now }
 {
-    if starts_long(left) {
-        return true;
-    }
-    if pairs::starts_record(FORMER_LONGEST, left) {
-        return starts_long(pairs::behind(left));
-    }
-    false
+    starts_long(left)
+        || pairs::starts_record(FORMER_LONGEST, left) && starts_long(pairs::behind(left))
 }
 
 // Whether the trace cannot be converted: its old reading ended at a record length of 127 or 128.
 pub fn refused(converter: Converter) -> bool
     ensures { result ≡ ends_long (feed_of converter).kept }
 {
-    let held = converter.held;
-    ends_long(kept(&held, converter.rest))
+    ends_long(kept(&converter.held, converter.rest))
 }

@@ -24,72 +24,47 @@ struct Night {
     count: usize,
 }
 
-// The input behind a night, the output, to which nothing went, whether the night cannot be converted, and how many requests are
-// changed.
+// The input behind a night and the output, to which the converted night went or, where it was looked through, nothing; whether the
+// night cannot be converted, and how many requests are changed.
 #[derive(Clone, Copy)]
-pub struct Looked {
+pub struct Outcome {
     pub input: Stream,
     pub out: Stream,
-    pub refused: bool,
-    pub changed: u64,
-}
-
-// The same of a converted night, which went to the output.
-#[derive(Clone, Copy)]
-pub struct Renewed {
-    pub input: Stream,
-    pub out: Stream,
+    // kept: the contract `Looks`: it says how many requests are changed of a refused night too
     pub refused: bool,
     pub changed: u64,
 }
 
 // One part more; what it puts out is written where that is wanted.
+// kept: no plainer: a closure in place of `wanted` would take the output and a second lent buffer for each part and hand both back
 fn carry_part(
-    input: Stream,
+    night: Night,
     source: &Source,
-    out: Stream,
-    converter: Converter,
     wanted: bool,
     part: &mut [u8],
     buffer: &mut [u8],
 ) -> Night
     requires { (length part.old ≤ part_room) × (out_room ≤ length buffer.old) }
-    ensures { Carries wanted input out converter result.input result.out result.converter }
+    ensures { Carries wanted night.input night.out night.converter result.input result.out result.converter }
 {
-    let got = streams::read(input, source, part);
+    let got = streams::read(night.input, source, part);
     let n = got.count;
-    let behind = got.stream;
-    let taken = crate::converter::take(converter, &part[..n], buffer);
-    let count = taken.count;
-    let next = taken.converter;
-    if wanted {
-        return Night {
-            input: behind,
-            out: streams::write(out, &buffer[..count]),
-            converter: next,
-            count: n,
-        };
-    }
+    let taken = converter::take(night.converter, &part[..n], buffer);
+    let out = if wanted {
+        streams::write(night.out, &buffer[..taken.count])
+    } else {
+        night.out
+    };
     Night {
-        input: behind,
+        input: got.stream,
         out,
-        converter: next,
+        converter: taken.converter,
         count: n,
     }
 }
 
-// Tells how far the reading is, when it is time.
-fn tell(progress: Progress, read: u64) -> Progress {
-    if progress::is_due(progress, false) {
-        let mut line = [0u8; 64];
-        let n = spell::write_named(b"convert: bytes read so far", read, &mut line, 0);
-        streams::write(streams::standard_error(), &line[..n]);
-        return progress::told(progress);
-    }
-    progress
-}
-
-// Nothing says that a trace ends, and a proved loop has to: it counts its turns down from a number that no run uses up.
+// Nothing says that a trace ends, and a proved loop has to: it has as many turns as no run uses up.
+// kept: as of `carry_part`
 fn carry_all(
     input: Stream,
     source: &Source,
@@ -110,78 +85,65 @@ fn carry_all(
         count: 0,
     };
     let mut told = progress;
-    let mut turns = u64::MAX;
-    while turns > 0 {
-        night = carry_part(
-            night.input,
-            source,
-            night.out,
-            night.converter,
-            wanted,
-            part,
-            buffer,
-        );
+    for _ in 0..u64::MAX {
+        night = carry_part(night, source, wanted, part, buffer);
+        // kept: the contract of `streams::read`: at the end no byte comes
         if night.count == 0 {
-            return night;
+            break;
         }
-        turns -= 1;
-        told = tell(told, night.input.count);
+        told = progress::tell(told, b"convert: bytes read so far", night.input.count);
     }
     night
 }
 
 // Looks through a night to its end; nothing is written to the output.
-pub fn look(input: Stream, source: &Source, out: Stream, progress: Progress) -> Looked
+pub fn look(input: Stream, source: &Source, out: Stream, progress: Progress) -> Outcome
     ensures { Looks input out result }
 {
     let mut part = io::large_buffer();
-    let mut buffer = [0u8; crate::converter::ROOM];
+    let mut buffer = [0u8; converter::ROOM];
     let night = carry_all(
         input,
         source,
         out,
-        crate::converter::new(),
+        converter::new(),
         false,
         progress,
         &mut part,
         &mut buffer,
     );
-    let read = night.input;
-    let lent = night.out;
     let seen = night.converter;
-    Looked {
-        input: read,
-        out: lent,
-        refused: crate::converter::refused(seen),
+    Outcome {
+        input: night.input,
+        out: night.out,
+        refused: converter::refused(seen),
         changed: seen.changed,
     }
 }
 
 // Converts a night into an output.
-pub fn renew(input: Stream, source: &Source, out: Stream, progress: Progress) -> Renewed
+pub fn renew(input: Stream, source: &Source, out: Stream, progress: Progress) -> Outcome
     ensures { Renews input out result }
 {
     let mut part = io::large_buffer();
-    let mut buffer = [0u8; crate::converter::ROOM];
+    let mut buffer = [0u8; converter::ROOM];
     let night = carry_all(
         input,
         source,
         out,
-        crate::converter::new(),
+        converter::new(),
         true,
         progress,
         &mut part,
         &mut buffer,
     );
-    let behind = night.input;
-    let written = night.out;
-    let converter = night.converter;
-    let n = crate::converter::last(converter, &mut buffer);
-    Renewed {
-        input: behind,
-        out: streams::write(written, &buffer[..n]),
-        refused: crate::converter::refused(converter),
-        changed: converter.changed,
+    let behind = night.converter;
+    let n = converter::last(behind, &mut buffer);
+    Outcome {
+        input: night.input,
+        out: streams::write(night.out, &buffer[..n]),
+        refused: converter::refused(behind),
+        changed: behind.changed,
     }
 }
 
@@ -191,9 +153,10 @@ fn write_verdict(refused: bool, changed: u64, out: &mut [u8]) -> usize
     ensures { Written verdict_room out.old 0 (verdict refused changed) out.new result }
 {
     if refused {
-        return spell::write_bytes(b"not converted\n", out, 0);
+        spell::write_bytes(b"not converted\n", out, 0)
+    } else {
+        spell::write_named(b"converted", changed, out, 0)
     }
-    spell::write_named(b"converted", changed, out, 0)
 }
 
 // Writes that line.

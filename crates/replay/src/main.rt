@@ -6,27 +6,23 @@ mod help;
 mod morning;
 mod wish;
 
+use files::program::read;
+use files::{Verdict, told};
 use std::rt::HostRuntime;
-use wish::Wish;
+use wish::Wanted;
 
 // Does what is wished, and answers the verdict.
-fn done(rt: HostRuntime, wish: Wish) -> u64 {
-    if wish.end == wish::HELP {
-        return help::print();
+fn done(rt: HostRuntime) -> Verdict {
+    match read(rt, b"replay", help::TEXT, Wanted::default()) {
+        Ok(wanted) if wanted.numberless => {
+            told::say(b"replay: --show asks for the number of a pair, from 1 on\n");
+            Verdict::Trouble
+        }
+        Ok(wanted) => morning::run(rt, wanted),
+        Err(verdict) => verdict,
     }
-    if wish.end == wish::VERSION {
-        return files::told::version(b"replay");
-    }
-    if wish.end != wish::ALL {
-        return wish::complain(rt, wish.end, wish.at);
-    }
-    if wish.next == wish::NUMBER {
-        files::told::say(b"replay: --show asks for the number of a pair, from 1 on\n");
-        return 2;
-    }
-    morning::run(rt, wish.file, wish.list, wish.show, wish.progress)
 }
 
 fn main(rt: HostRuntime) {
-    files::told::verdict(done(rt, wish::read(rt, files::argument_count(rt))));
+    told::verdict(done(rt));
 }

@@ -1,74 +1,74 @@
 // The night that is asked for, read and told.
+use crate::wish::{Told, Wanted};
 use files::told::{say, trouble, written};
+use files::{Input, Verdict};
 use std::rt::HostRuntime;
-use streams::{Source, Stream};
 
-fn no_numbers(name: &[u8]) -> u64 {
+// kept: like sheet's `no_sheet`; one function for both would still be given the words here, where both callers have them.
+fn no_numbers(name: &[u8]) -> Verdict {
     trouble(b"replay", name);
     say(b"replay: the trace was not read to its end, so there are no numbers\n");
-    2
+    Verdict::Trouble
 }
 
-// 0 where nothing differs and nothing is left, and 1 where something does or is.
-fn found(differ: u64, rest: u64) -> u64 {
-    if differ != 0 {
-        return 1;
+fn found(differ: u64, rest: u64) -> Verdict {
+    if differ == 0 && rest == 0 {
+        Verdict::Well
+    } else {
+        Verdict::Differs
     }
-    if rest != 0 {
-        return 1;
-    }
-    0
 }
 
 // The five lines.
-fn count(from: Stream, source: &Source, name: &[u8], progress: bool) -> u64 {
-    let far = progress::begin(progress, source);
-    let replayed = night::replay_all(from, source, far, streams::standard_output());
-    let read = replayed.input;
-    let five = replayed.five;
-    if read.failed {
-        return no_numbers(name);
+fn count(input: &Input, progress: bool) -> Verdict {
+    let far = progress::begin(progress, &input.source);
+    let replayed = night::replay_all(input.stream, &input.source, far, streams::standard_output());
+    if replayed.input.failed {
+        return no_numbers(input.name);
     }
-    written(b"replay", replayed.out, found(five.differ, five.rest))
+    written(
+        b"replay",
+        replayed.out,
+        found(replayed.five.differ, replayed.five.rest),
+    )
 }
 
-// The pairs that differ, or one pair in words.
-fn tell(from: Stream, source: &Source, name: &[u8], wanted: u64) -> u64 {
-    let told = night::listing::list(from, source, wanted, streams::standard_output());
-    let read = told.input;
-    let out = told.out;
-    if out.failed {
-        return written(b"replay", out, 2);
+// This pair in words, or the pairs that differ where none is asked for.
+fn tell(input: &Input, pair: Option<u64>) -> Verdict {
+    let told = night::listing::list(
+        input.stream,
+        &input.source,
+        pair.unwrap_or(0),
+        streams::standard_output(),
+    );
+    if told.out.failed {
+        return written(b"replay", told.out, Verdict::Trouble);
     }
-    if read.failed {
-        trouble(b"replay", name);
+    if told.input.failed {
+        trouble(b"replay", input.name);
         say(b"replay: the trace was not read to its end\n");
-        return 2;
+        return Verdict::Trouble;
     }
-    if wanted == 0 {
-        return found(told.differ, told.rest);
+    match pair {
+        None => found(told.differ, told.rest),
+        Some(n) if told.calls < n => {
+            say(b"replay: the reading ends before that pair\n");
+            Verdict::Trouble
+        }
+        Some(_) => found(told.differ, 0),
     }
-    if told.calls < wanted {
-        say(b"replay: the reading ends before that pair\n");
-        return 2;
-    }
-    found(told.differ, 0)
 }
 
-// The trace that argument `file` names, or standard input where that is 0.
-pub fn run(rt: HostRuntime, file: usize, list: bool, show: u64, progress: bool) -> u64 {
-    let mut name = io::buffer();
-    let input = files::open(rt, file, &mut name);
-    let n = input.size;
-    let from = input.stream;
-    if from.failed {
-        return no_numbers(&name[..n]);
+// What is wanted of the trace.
+pub fn run(rt: HostRuntime, wanted: Wanted) -> Verdict {
+    let mut room = io::buffer();
+    let input = files::open(rt, wanted.file, &mut room);
+    if input.stream.failed {
+        return no_numbers(input.name);
     }
-    if list {
-        return tell(from, &input.source, &name[..n], 0);
+    match wanted.told {
+        Told::Lines => count(&input, wanted.progress),
+        Told::List => tell(&input, None),
+        Told::Pair(n) => tell(&input, Some(n)),
     }
-    if show != 0 {
-        return tell(from, &input.source, &name[..n], show);
-    }
-    count(from, &input.source, &name[..n], progress)
 }

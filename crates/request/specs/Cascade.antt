@@ -23,6 +23,10 @@ first (t ∷ rest) = cond t.holds (some t) (first rest)
 unfoldable pub refused : ℕ → ℕ → Answer
 refused number place = record { number = number; place = place; count = 0 }
 
+-- "Accepted: 0, 0," and a count
+unfoldable pub accepting : ℕ → Answer
+accepting count = record { number = 0; place = 0; count = count }
+
 -- the refusal of the test that decides; where none does, the last word
 unfoldable pub decided : Option Test → Answer → Answer
 decided none last = last

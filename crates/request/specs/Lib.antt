@@ -4,3 +4,4 @@ pub mod Request
 pub mod Cascade
 pub mod Refusal
 pub mod units
+pub mod refusals

@@ -2,11 +2,12 @@
 // DEGREE and the counts. The refusals, as one table, are definitions here; `judge`, a crate above, goes down the table.
 #![tactic(auto)]
 
+pub mod refusals;
 pub mod units;
 
-ghost use Rattle.std.specs.Prelude.{◌≡◌, false};
+ghost use Rattle.std.specs.Prelude.{◌≡◌, ◌==◌, not, false};
 ghost use Rattle.request.specs.Head.{degree, surface_count, path_count};
-ghost use Rattle.request.specs.Cascade.{refused};
+ghost use Rattle.request.specs.Cascade.{accepting, refused};
 ghost use Rattle.request.specs.Refusal.{not_kind, not_degree};
 
 // The greatest r and the greatest N, and what they ask for at most.
@@ -18,7 +19,8 @@ pub const MOST_POINTS: usize = 25;
 
 pub const MOST_PATH_NUMBERS: usize = 21;
 
-// What a request is besides its two arrays: the form, a first and a second degree, and the path's degree N.
+// What a request is besides its two arrays: the form, a first and a second degree, and the path's degree N. The form stays a
+// number: it comes from C and from records and may be any, and KIND refuses all but 1, 2 and 3.
 #[derive(Clone, Copy)]
 pub struct Head {
     pub form: u32,
@@ -36,7 +38,8 @@ pub struct Rooms {
 }
 
 // number: 0 for accepted, else the refusal's. place: the least bad index (VALUE, PARAMETER) or the least bad point's
-// number (BALANCE), else 0. count: how many places of each output array are written.
+// number (BALANCE), else 0. count: how many places of each output array are written. No `Result` of a `Refusal`: C and the records
+// have the three numbers, and `answer` in specs/ and every theorem on it speak of them.
 #[derive(Clone, Copy)]
 pub struct Answer {
     pub number: u32,
@@ -44,6 +47,29 @@ pub struct Answer {
     pub count: usize,
 }
 
+impl Answer {
+    // Accepted: so many places of each output array are written.
+    #[tactic(auto, unfolding(crate::specs::Cascade::accepting))]
+    pub fn accepted(count: usize) -> Answer
+        ensures { result ≡ accepting count }
+    {
+        Answer {
+            number: 0,
+            place: 0,
+            count,
+        }
+    }
+
+    // Whether it is a refusal, whatever its number.
+    pub fn is_refused(self) -> bool
+        ensures { result ≡ not (self.number == 0) }
+    {
+        self.number != 0
+    }
+}
+
+// The refusal of any number: that of a name is `Refusal::at`.
+#[tactic(auto, unfolding(crate::specs::Cascade::refused))]
 pub fn refusal(number: u32, place: usize) -> Answer
     ensures { result ≡ refused number place }
 {
@@ -55,74 +81,63 @@ pub fn refusal(number: u32, place: usize) -> Answer
 }
 
 // 1 KIND
+#[tactic(auto, unfolding(crate::specs::Refusal::not_kind))]
 pub fn not_kind(head: Head) -> bool
     ensures { result ≡ not_kind head }
 {
-    if head.form == 1 {
-        return false;
-    }
-    if head.form == 2 {
-        return false;
-    }
-    head.form != 3
+    !matches!(head.form, 1 | 2 | 3)
 }
 
 // 2 DEGREE. The greatest degrees are refused before they are added.
 pub fn not_degree(head: Head) -> bool
     ensures { result ≡ not_degree head }
 {
-    let first = head.first;
-    let second = head.second;
-    if MOST_DEGREE < first {
+    if head.first > MOST_DEGREE || head.N > MOST_N {
         return true;
     }
-    if MOST_N < head.N {
-        return true;
+    match head.form {
+        2 => head.second > MOST_DEGREE - head.first,
+        _ => head.second != 0,
     }
-    if head.form == 2 {
-        return MOST_DEGREE - first < second;
-    }
-    second != 0
 }
 
 // r: the number of arguments that the blossom takes.
+#[tactic(auto, unfolding(crate::specs::Head::degree, crate::specs::Head::by_form))]
 pub fn degree(head: Head) -> u64
     ensures { result ≡ degree head }
 {
-    let first = head.first as u64;
-    if head.form == 2 {
-        return first + head.second as u64;
+    let first = u64::from(head.first);
+    match head.form {
+        2 => first + u64::from(head.second),
+        _ => first,
     }
-    first
 }
 
 // How many control values the head asks for.
+#[tactic(auto, unfolding(crate::specs::Head::surface_count, crate::specs::Head::by_form))]
 pub fn surface_count(head: Head) -> usize
     requires { not_degree head ≡ false }
     ensures { result ≡ surface_count head }
 {
     let first = head.first as usize;
-    if head.form == 1 {
-        return first + 1;
+    let second = head.second as usize;
+    match head.form {
+        1 => first + 1,
+        2 => (first + 1) * (second + 1),
+        _ => (first + 1) * (first + 2) / 2,
     }
-    if head.form == 2 {
-        let second = head.second as usize;
-        return (first + 1) * (second + 1);
-    }
-    (first + 1) * (first + 2) / 2
 }
 
 // How many path numbers the head asks for.
+#[tactic(auto, unfolding(crate::specs::Head::path_count, crate::specs::Head::numbers, crate::specs::Head::by_form))]
 pub fn path_count(head: Head) -> usize
     requires { not_degree head ≡ false }
     ensures { result ≡ path_count head }
 {
     let points = head.N as usize + 1;
-    if head.form == 1 {
-        return 1 * points;
+    match head.form {
+        1 => points,
+        2 => 2 * points,
+        _ => 3 * points,
     }
-    if head.form == 2 {
-        return 2 * points;
-    }
-    3 * points
 }

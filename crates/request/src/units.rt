@@ -17,62 +17,46 @@ pub struct Travel(pub i32);
 #[derive(Clone, Copy)]
 pub struct Age(pub u16);
 
-// Control value k of a surface, and no travel past its end.
+// Control value k of a surface, and no travel past its end. This and the next stay two, a line each: one for both would need a trait.
 pub fn travel_at(surface: &[i32], k: usize) -> Travel
     ensures { result.0 ≡ get_or surface.now k (pos 0) }
 {
-    if k < surface.len() {
-        Travel(surface[k])
-    } else {
-        Travel(0)
-    }
+    Travel(surface.get(k).copied().unwrap_or(0))
 }
 
 // Number k of a path, and 0 past its end.
 pub fn path_number_at(path: &[i32], k: usize) -> PathNumber
     ensures { result.0 ≡ get_or path.now k (pos 0) }
 {
-    if k < path.len() {
-        PathNumber(path[k])
-    } else {
-        PathNumber(0)
-    }
+    PathNumber(path.get(k).copied().unwrap_or(0))
 }
 
 // The travel as a whole number of 0.01 mm.
 pub fn units_of(t: Travel) -> Num
     ensures { result.0 ≡ t.0 }
 {
-    Num(t.0 as i64)
+    Num(i64::from(t.0))
 }
 
 // The size of a path number, in 1/1024. A path number within its bounds is its size.
 fn size_of(p: PathNumber) -> u64
     ensures { result ≡ nat_abs p.0 }
 {
-    if p.0 < 0 {
-        (0 - p.0 as i64) as u64
-    } else {
-        p.0 as u64
-    }
+    u64::from(p.0.unsigned_abs())
 }
 
+#[tactic(auto, unfolding(crate::specs::units::Bounds::beyond_travel))]
 pub fn beyond_travel(t: Travel) -> bool
     ensures { result ≡ beyond_travel t.0 }
 {
-    if t.0 < -4096 {
-        return true;
-    }
-    4096 < t.0
+    !(-4096..=4096).contains(&t.0)
 }
 
+#[tactic(auto, unfolding(crate::specs::units::Bounds::beyond_path))]
 pub fn beyond_path(p: PathNumber) -> bool
     ensures { result ≡ beyond_path p.0 }
 {
-    if p.0 < 0 {
-        return true;
-    }
-    1024 < p.0
+    !(0..=1024).contains(&p.0)
 }
 
 // The size of number k of a path.
@@ -91,6 +75,7 @@ pub fn travel_of(n: Num) -> Travel
 }
 
 // Whether a tilt sample is too old to ride on.
+#[tactic(auto, unfolding(crate::specs::units::Bounds::stale))]
 pub fn is_stale(age: Age) -> bool
     ensures { result ≡ stale age.0 }
 {

@@ -4,11 +4,12 @@
 
 mod torn_trace;
 
-use files::program;
+use files::program::names;
+use files::told;
 use std::rt::HostRuntime;
 
 fn main(rt: HostRuntime) {
-    let named = program::names(
+    let named = names(
         rt,
         b"salvage",
         b"usage: salvage [--progress] IN OUT\n\
@@ -23,7 +24,7 @@ fn main(rt: HostRuntime) {
         2,
         2,
     );
-    if named.go {
-        files::told::verdict(torn_trace::run(rt, named.first, named.second, named.progress));
+    if let Some(named) = named {
+        told::verdict(torn_trace::run(rt, named));
     }
 }

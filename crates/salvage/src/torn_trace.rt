@@ -1,108 +1,82 @@
 // Salvaging one file to another.
 use files::output::Output;
-use files::{output, told};
+use files::program::Named;
+use files::{Input, Verdict, output, told};
 use salvaging::Salvaged;
-use std::fs::File;
 use std::rt::HostRuntime;
-use streams::{Source, Stream};
+
+fn trouble(what: &[u8]) -> Verdict {
+    told::trouble(b"salvage", what);
+    Verdict::Trouble
+}
 
 // What went wrong is told, and what stood under OUT's name stays.
-fn trouble(rt: HostRuntime, file: Option<File>, beside: &[u8], what: &[u8]) -> u64 {
-    told::trouble(b"salvage", what);
-    output::abandon(rt, file, beside);
-    2
+fn given_up(output: Output, what: &[u8]) -> Verdict {
+    let verdict = trouble(what);
+    output.abandon();
+    verdict
 }
 
-// The output of a salvage gets its name, or what went wrong is told. 1 where bytes were skipped.
-fn end(
-    rt: HostRuntime,
-    salvaged: Salvaged,
-    file: Option<File>,
-    from: &[u8],
-    to: &[u8],
-    beside: &[u8],
-) -> u64 {
-    let input = salvaged.input;
-    let out = salvaged.out;
-    let lines = salvaged.lines;
-    if input.failed {
-        return trouble(rt, file, beside, from);
+// The output of a salvage gets its name, or what went wrong is told. It differs where bytes were skipped.
+fn end(salvaged: Salvaged, output: Output, from: &[u8], to: &[u8]) -> Verdict {
+    if salvaged.input.failed {
+        return given_up(output, from);
     }
-    if out.failed {
-        return trouble(rt, file, beside, to);
+    if salvaged.out.failed {
+        return given_up(output, to);
     }
-    if lines.failed {
-        return trouble(rt, file, beside, b"standard output");
+    if salvaged.lines.failed {
+        return given_up(output, b"standard output");
     }
-    if !output::finish(rt, out, file, to, beside) {
-        told::trouble(b"salvage", to);
-        return 2;
+    if !output.finish(salvaged.out) {
+        return trouble(to);
     }
-    if lines.count == 0 {
-        return 0;
+    if salvaged.lines.count == 0 {
+        Verdict::Well
+    } else {
+        Verdict::Differs
     }
-    1
 }
 
-fn salvage(
-    rt: HostRuntime,
-    input: Stream,
-    source: &Source,
-    from: &[u8],
-    to: &[u8],
-    progress: bool,
-) -> u64 {
-    let mut name = io::buffer();
-    if output::is_input(rt, input, to) {
+fn salvage(rt: HostRuntime, input: &Input, to: &[u8], progress: bool) -> Verdict {
+    let mut room = io::buffer();
+    if output::is_input(rt, input.stream, to) {
         told::say(b"salvage: OUT is the file that IN is: ");
         told::say(to);
         told::say(b"\n");
-        return 2;
+        return Verdict::Trouble;
     }
-    let Output {
-        stream: out,
-        file,
-        beside: n,
-    } = output::begin(rt, to, &mut name);
-    if out.failed {
-        told::trouble(b"salvage", to);
-        return 2;
+    let output = output::begin(rt, to, &mut room);
+    if output.stream.failed {
+        return trouble(to);
     }
-    let due = progress::begin(progress, source);
-    let salvaged = salvaging::salvage_all(input, source, due, out, streams::standard_output());
-    end(rt, salvaged, file, from, to, &name[..n])
+    let salvaged = salvaging::salvage_all(
+        input.stream,
+        &input.source,
+        progress::begin(progress, &input.source),
+        output.stream,
+        streams::standard_output(),
+    );
+    end(salvaged, output, input.name, to)
 }
 
-// The file that the second argument names, from an input.
-fn salvage_to(
-    rt: HostRuntime,
-    input: Stream,
-    source: &Source,
-    from: &[u8],
-    second: usize,
-    progress: bool,
-) -> u64 {
+// The file that an argument names, from an input.
+fn salvage_to(rt: HostRuntime, input: &Input, second: usize, progress: bool) -> Verdict {
     let mut name = io::buffer();
     match files::argument(rt, second, &mut name) {
-        Some(n) => salvage(rt, input, source, from, &name[..n], progress),
-        None => {
-            told::trouble(b"salvage", b"");
-            2
-        }
+        Some(n) => salvage(rt, input, &name[..n], progress),
+        None => trouble(b""),
     }
 }
 
-// Salvages what argument `first` names to what argument `second` names, and answers the verdict.
-pub fn run(rt: HostRuntime, first: usize, second: usize, progress: bool) -> u64 {
-    let mut name = io::buffer();
-    let input = files::open(rt, first, &mut name);
-    let n = input.size;
-    let from = input.stream;
-    if from.failed {
-        told::trouble(b"salvage", &name[..n]);
-        return 2;
+// Salvages what the first name is to what the second is, and answers the verdict.
+pub fn run(rt: HostRuntime, named: Named) -> Verdict {
+    let mut room = io::buffer();
+    let input = files::open(rt, named.first, &mut room);
+    if input.stream.failed {
+        return trouble(input.name);
     }
-    let status = salvage_to(rt, from, &input.source, &name[..n], second, progress);
+    let verdict = salvage_to(rt, &input, named.second.unwrap_or(0), named.progress);
     files::close(input.source);
-    status
+    verdict
 }

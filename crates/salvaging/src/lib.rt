@@ -33,27 +33,24 @@ struct Settled {
 fn put(place: Place, line: &[u8], kept: &[u8], state: State) -> State
     ensures { Puts place line.now kept.now state result }
 {
-    let to = state.lines;
-    let also = state.out;
     State {
         place,
-        out: streams::write(also, kept),
-        lines: streams::write(to, line),
+        out: streams::write(state.out, kept),
+        lines: streams::write(state.lines, line),
     }
 }
 
 // What lies ahead in a window goes out.
+// kept: the contract of `saver::ahead`, here and below: a line has room for its bytes, and `last` is a fact of the window and no step
 fn step(window: &[u8], last: bool, line: &mut [u8], state: State) -> Settled
     requires { line_room ≤ length line.old }
     ensures { Settles last window.now state result.taken result.state × (result.taken ≡ 0 → Rests last window.now) }
 {
-    let place = state.place;
-    let next = crate::saver::ahead(window, last, place, line);
-    let from = next.skipped;
-    let end = from + next.kept;
-    let size = next.line;
+    let next = saver::ahead(window, last, state.place, line);
+    let end = next.skipped + next.kept;
+    let kept = &window[next.skipped..end];
     Settled {
-        state: put(next.place, &line[..size], &window[from..end], state),
+        state: put(next.place, &line[..next.line], kept, state),
         taken: end,
     }
 }
@@ -65,8 +62,10 @@ fn settle(window: &[u8], last: bool, line: &mut [u8], state: State) -> Settled
 {
     let mut now = state;
     let mut at = 0;
+    // kept: a stretch has any number of bytes, so this is no `for`
     while at < window.len() {
         let next = step(&window[at..], last, line, now);
+        // kept: the contract of `step`: of no byte more is anything decided
         if next.taken == 0 {
             return Settled {
                 state: now,
@@ -82,19 +81,6 @@ fn settle(window: &[u8], last: bool, line: &mut [u8], state: State) -> Settled
     }
 }
 
-// The bytes of a buffer from `at` to `end` come to its front.
-fn slide(buffer: &mut [u8], at: usize, end: usize)
-    requires { (at ≤ end) × (end ≤ length buffer.old) }
-    ensures { take (end - at) buffer.new ≡ take (end - at) (drop at buffer.old) }
-{
-    let n = end - at;
-    let mut i = 0;
-    while i < n {
-        buffer[i] = buffer[at + i];
-        i += 1;
-    }
-}
-
 // The input and the state behind a part, how many bytes came, and how many stand in the buffer that are not decided.
 #[derive(Clone, Copy)]
 struct Turn {
@@ -105,27 +91,19 @@ struct Turn {
 }
 
 // One part more, behind the bytes of a buffer that are not decided.
-fn read_more(
-    input: Stream,
-    source: &Source,
-    buffer: &mut [u8],
-    count: usize,
-    line: &mut [u8],
-    state: State,
-) -> Turn
-    requires { (count ≤ length buffer.old) × (line_room ≤ length line.old) }
-    ensures { Fills input (take count buffer.old) state result buffer.new }
+fn read_more(turn: Turn, source: &Source, buffer: &mut [u8], line: &mut [u8]) -> Turn
+    requires { (turn.count ≤ length buffer.old) × (line_room ≤ length line.old) }
+    ensures { Fills turn.input (take turn.count buffer.old) turn.state result buffer.new }
 {
-    let got = streams::read(input, source, &mut buffer[count..]);
+    let count = turn.count;
+    let got = streams::read(turn.input, source, &mut buffer[count..]);
     let end = count + got.count;
-    let settled = settle(&buffer[..end], false, line, state);
+    let settled = settle(&buffer[..end], false, line, turn.state);
     let at = settled.taken;
-    slide(buffer, at, end);
-    let behind = got.stream;
-    let next = settled.state;
+    buffer.copy_within(at..end, 0);
     Turn {
-        input: behind,
-        state: next,
+        input: got.stream,
+        state: settled.state,
         came: got.count,
         count: end - at,
     }
@@ -133,31 +111,11 @@ fn read_more(
 
 // Nothing more came, or a write failed.
 fn is_over(turn: Turn) -> bool {
-    let state = turn.state;
-    let out = state.out;
-    let lines = state.lines;
-    if turn.came == 0 {
-        return true;
-    }
-    if out.failed {
-        return true;
-    }
-    lines.failed
+    turn.came == 0 || turn.state.out.failed || turn.state.lines.failed
 }
 
-// Tells how far the reading is, where it is time to.
-fn tell(progress: Progress, input: Stream) -> Progress {
-    if !progress::is_due(progress, false) {
-        return progress;
-    }
-    let mut out = [0u8; 64];
-    let n = spell::write_named(b"salvage: bytes read", input.count, &mut out, 0);
-    streams::write(streams::standard_error(), &out[..n]);
-    progress::told(progress)
-}
-
-// Reads until nothing more comes or a write fails. Nothing says that an input ends, and a proved loop has to: it counts its turns down
-// from a number that no run uses up.
+// Reads until nothing more comes or a write fails. Nothing says that an input ends, and a proved loop has to: it has as many turns as no
+// run uses up.
 fn read_all(
     input: Stream,
     source: &Source,
@@ -176,14 +134,12 @@ fn read_all(
         count: 0,
     };
     let mut due = progress;
-    let mut turns = u64::MAX;
-    while turns > 0 {
-        turn = read_more(turn.input, source, buffer, turn.count, line, turn.state);
+    for _ in 0..u64::MAX {
+        turn = read_more(turn, source, buffer, line);
         if is_over(turn) {
-            return turn;
+            break;
         }
-        due = tell(due, turn.input);
-        turns -= 1;
+        due = progress::tell(due, b"salvage: bytes read", turn.input.count);
     }
     turn
 }
@@ -194,18 +150,17 @@ pub struct Salvaged {
     pub input: Stream,
     pub out: Stream,
     pub lines: Stream,
+    // kept: the contract `Salvages`: it says of the input and both outputs what they are where the salvage did not end too
     pub ended: bool,
 }
 
 fn left(input: Stream, state: State, ended: bool) -> Salvaged
     ensures { result ≡ record { input = input; out = state.out; lines = state.lines; ended = ended } }
 {
-    let out = state.out;
-    let lines = state.lines;
     Salvaged {
         input,
-        out,
-        lines,
+        out: state.out,
+        lines: state.lines,
         ended,
     }
 }
@@ -214,15 +169,7 @@ fn left(input: Stream, state: State, ended: bool) -> Salvaged
 fn is_broken(input: Stream, state: State) -> bool
     ensures { result ≡ (input.failed || (state.out.failed || state.lines.failed)) }
 {
-    let out = state.out;
-    let lines = state.lines;
-    if input.failed {
-        return true;
-    }
-    if out.failed {
-        return true;
-    }
-    lines.failed
+    input.failed || state.out.failed || state.lines.failed
 }
 
 // The line of the last run goes out.
@@ -230,9 +177,8 @@ fn finish(state: State, line: &mut [u8]) -> State
     requires { line_room ≤ length line.old }
     ensures { Puts state.place (closed_line state.place.from state.place.lost) [] state result }
 {
-    let place = state.place;
-    let n = crate::saver::close(place, line);
-    put(place, &line[..n], b"", state)
+    let n = saver::close(state.place, line);
+    put(state.place, &line[..n], b"", state)
 }
 
 // Salvages an input that has been opened: the kept pairs go to `out`, and the lines to `lines`.
@@ -253,12 +199,9 @@ pub fn salvage_all(
         lines,
     };
     let turn = read_all(input, source, &mut buffer, &mut line, begun, progress);
-    let behind = turn.input;
-    let state = turn.state;
-    if is_broken(behind, state) {
-        return left(behind, state, false);
+    if is_broken(turn.input, turn.state) {
+        return left(turn.input, turn.state, false);
     }
-    let count = turn.count;
-    let settled = settle(&buffer[..count], true, &mut line, state);
-    left(behind, finish(settled.state, &mut line), true)
+    let settled = settle(&buffer[..turn.count], true, &mut line, turn.state);
+    left(turn.input, finish(settled.state, &mut line), true)
 }

@@ -8,7 +8,7 @@ ghost use Rattle.spell.specs.Decimal.{Written};
 ghost use Rattle.door.specs.Contract.{reply_of};
 ghost use Rattle.torn.specs.Lines.{skip_line};
 ghost use Rattle.torn.specs.Window.{cut_off, waits as waits_in, passes as passes_in, skips_ahead, keeps_ahead, closed_line};
-ghost use Rattle.salvaging.specs.saver.Ahead.{line_room, size_kept, Closes, Leaves, stretch_of};
+ghost use Rattle.salvaging.specs.saver.Ahead.{line_room, kept_size, Closes, Leaves, stretch_of};
 
 // Where a salvage stands: the offset in the torn trace from which on bytes were skipped, and how many of them.
 #[derive(Clone, Copy)]
@@ -27,96 +27,78 @@ pub struct Stretch {
     pub place: Place,
 }
 
+// The kinds of a request, without and with the age of its tilt sample.
+const REQUEST_KIND: u64 = 0x0001;
+
+const AGED_KIND: u64 = 0x0002;
+
 // The length with which a record starts here is one of a record.
+#[tactic(auto, unfolding(wire::specs::Start::is_length, wire::specs::Start::length_field))]
 fn has_length(bytes: &[u8]) -> bool
     ensures { result ≡ is_length longest_record (length_field bytes.now) }
 {
     let n = wire::word_at(bytes, 0) as usize;
-    if n < 8 {
-        return false;
-    }
-    n <= pairs::LONGEST
+    8 <= n && n <= pairs::LONGEST
 }
 
 // A record is cut off here.
+#[tactic(auto, unfolding(torn::specs::Window::cut_off, wire::specs::Start::length_field))]
 fn cut_off(bytes: &[u8]) -> bool
     ensures { result ≡ cut_off longest_record bytes.now }
 {
-    if bytes.len() < 2 {
-        return true;
-    }
-    if !has_length(bytes) {
-        return false;
-    }
-    bytes.len() < wire::word_at(bytes, 0) as usize
+    bytes.len() < 2 || has_length(bytes) && bytes.len() < wire::word_at(bytes, 0) as usize
 }
 
 // A pair is cut off here.
+// kept: of one shape with `ends_long` of crate renewal, as the definitions of both are; one function would be longer than its two bodies
+#[tactic(auto, unfolding(torn::specs::Window::waits))]
 fn waits(window: &[u8]) -> bool
     ensures { result ≡ waits_in longest_record window.now }
 {
-    if cut_off(window) {
-        return true;
-    }
-    if !has_length(window) {
-        return false;
-    }
-    cut_off(pairs::behind(window))
+    cut_off(window)
+        || pairs::starts_record(pairs::LONGEST, window) && cut_off(pairs::behind(window))
 }
 
 // A request of one of the two kinds.
+#[tactic(auto, unfolding(wire::specs::Start::kind_field))]
 fn of_kind(request: &[u8]) -> bool
     ensures { result ≡ (eqb (kind_field request.now) 1 || eqb (kind_field request.now) 2) }
 {
     let kind = wire::word_at(request, 2);
-    if kind == 1 {
-        return true;
-    }
-    kind == 2
+    kind == REQUEST_KIND || kind == AGED_KIND
 }
 
-// How many bytes the pair is that is kept here; 0 where none is.
-fn size_kept(window: &[u8]) -> usize
-    ensures { result ≡ size_kept longest_record reply_of window.now }
+// How many bytes the pair is that is kept here, if one is.
+fn size_kept(window: &[u8]) -> Option<usize>
+    ensures { result ≡ kept_size longest_record reply_of window.now }
 {
     let n = pairs::pair_size(pairs::LONGEST, window);
-    if n == 0 {
-        return 0;
+    // kept: the contract of `pairs::pair_size`: 0 where no pair is
+    if n != 0 && of_kind(pairs::record_in(window)) && door::tally::agree(window) {
+        Some(n)
+    } else {
+        None
     }
-    if !of_kind(pairs::record_in(window)) {
-        return 0;
-    }
-    if !door::tally::agree(window) {
-        return 0;
-    }
-    n
 }
 
 // The first byte is skipped, whatever comes behind; where the trace has ended, nothing does.
+#[tactic(auto, unfolding(torn::specs::Window::passes, crate::specs::saver::Ahead::kept_size))]
 fn passes(window: &[u8], last: bool) -> bool
     ensures { result ≡ passes_in longest_record reply_of last window.now }
 {
-    if size_kept(window) != 0 {
-        return false;
-    }
-    if last {
-        return true;
-    }
-    !waits(window)
+    size_kept(window).is_none() && (last || !waits(window))
 }
 
 // So many bytes at the front are skipped.
 fn skips_ahead(window: &[u8], last: bool) -> usize
     ensures { result ≡ skips_ahead longest_record reply_of last window.now }
 {
-    let mut i = 0;
-    while i < window.len() {
+    for i in 0..window.len() {
         if !passes(&window[i..], last) {
             return i;
         }
-        i += 1;
     }
-    i
+    window.len()
 }
 
 // So many bytes at the front are those of pairs that are kept.
@@ -124,11 +106,8 @@ fn keeps_ahead(window: &[u8]) -> usize
     ensures { result ≡ keeps_ahead longest_record reply_of window.now }
 {
     let mut i = 0;
-    while i < window.len() {
-        let n = size_kept(&window[i..]);
-        if n == 0 {
-            return i;
-        }
+    // kept: a pair has any number of bytes, so this is no `for`
+    while let Some(n) = size_kept(&window[i..]) {
         i += n;
     }
     i

@@ -2,42 +2,46 @@
 // standard error, and then no line is written.
 #![tactic(auto)]
 
-use files::program;
+use files::program::{Named, names};
+use files::told::{say, trouble, written};
+use files::{Input, Verdict, told};
 use std::rt::HostRuntime;
-use streams::{Source, Stream};
 
-fn no_sheet(name: &[u8]) -> u64 {
-    files::told::trouble(b"sheet", name);
-    files::told::say(b"sheet: the trace was not read to its end, so there is no sheet\n");
-    2
+// kept: like replay's `no_numbers`; one function for both would still be given the words here, where both callers have them.
+fn no_sheet(name: &[u8]) -> Verdict {
+    trouble(b"sheet", name);
+    say(b"sheet: the trace was not read to its end, so there is no sheet\n");
+    Verdict::Trouble
 }
 
 // Writes the sheet of what comes from an input.
-fn sheet_from(from: Stream, source: &Source, name: &[u8], progress: bool) -> u64 {
-    let told = day::sheet_all(from, source, progress, streams::standard_output());
-    let read = told.input;
-    if read.failed {
-        return no_sheet(name);
+fn sheet_from(input: &Input, progress: bool) -> Verdict {
+    let told = day::sheet_all(
+        input.stream,
+        &input.source,
+        progress,
+        streams::standard_output(),
+    );
+    if told.input.failed {
+        return no_sheet(input.name);
     }
-    files::told::written(b"sheet", told.out, 0)
+    written(b"sheet", told.out, Verdict::Well)
 }
 
-// Writes the sheet of the trace that argument `file` names, or of standard input where that is 0.
-fn run(rt: HostRuntime, file: usize, progress: bool) -> u64 {
-    let mut name = io::buffer();
-    let input = files::open(rt, file, &mut name);
-    let n = input.size;
-    let from = input.stream;
-    if from.failed {
-        return no_sheet(&name[..n]);
+// Writes the sheet of the trace that the first name is, or of standard input where there is none.
+fn run(rt: HostRuntime, named: Named) -> Verdict {
+    let mut room = io::buffer();
+    let input = files::open(rt, named.first, &mut room);
+    if input.stream.failed {
+        return no_sheet(input.name);
     }
-    let status = sheet_from(from, &input.source, &name[..n], progress);
+    let verdict = sheet_from(&input, named.progress);
     files::close(input.source);
-    status
+    verdict
 }
 
 fn main(rt: HostRuntime) {
-    let named = program::names(
+    let named = names(
         rt,
         b"sheet",
         b"usage: sheet [--progress] [FILE]\n\
@@ -56,7 +60,7 @@ fn main(rt: HostRuntime) {
         0,
         1,
     );
-    if named.go {
-        files::told::verdict(run(rt, named.first, named.progress));
+    if let Some(named) = named {
+        told::verdict(run(rt, named));
     }
 }

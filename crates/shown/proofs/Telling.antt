@@ -2,13 +2,14 @@
 use mathlib.Core.Path.{◌≡◌, refl, sym, ap, ◌∙◌}
 use mathlib.Core.Bool.{Bool, true, false, cond}
 use mathlib.Core.List.{List, [], ◌∷◌, ◌++◌, append_assoc, append-nil}
-use Prim.Native.Nat.{ℕ, zero, suc, ◌+◌, ◌*◌, ◌-◌, ◌≤◌, ◌<◌, max}
+use Prim.Native.Nat.{ℕ, suc, ◌+◌, ◌*◌, ◌-◌, ◌^◌, ◌≤◌, ◌<◌, max}
 use native.Mathlib.Numerals.{add-one}
 use native.Mathlib.Omega.{arith}
 use lib.Dec.{eqb, ltb}
 use lib.ListN.{length, get_or, drop, drop_of_length-le}
 use lib.Seq.{drop-cons}
 use lib.IntN.{ℤ}
+use mir.Val.{bool_byte}
 use borrow.Author.Tests.{lt-ltb, le-ltb, eq-eqb, ne_eqb, eqb-true, ltb-false}
 use Rattle.spell.specs.Decimal.{digits, decimal}
 use Rattle.request.specs.declared.Head.{Head}
@@ -17,33 +18,30 @@ use Rattle.request.specs.Refusal.{not_kind, not_degree}
 use Rattle.wire.specs.Words.{word_at, signed, number_at}
 use Rattle.wire.specs.Start.{kind_field, start}
 use Rattle.judgement.specs.Record.{request_kind, aged_kind, aged_start, head_in, path_start, body_end}
+use Rattle.judgement.proofs.Sizes.{surface-most, path-most}
 use Rattle.replies.specs.Reply.{reply_kind}
 use Rattle.names.specs.Names.{name_of}
 use Rattle.page.specs.Page.{counted, numbered, hexed, byte_shown}
 use Rattle.page.specs.Form.{is_mark, width, after, value_of, marked, piece, told, formed}
+use Rattle.page.specs.declared.Paper.{Paper}
 use Rattle.page.proofs.Putting.{Onward, onward-none}
 use Rattle.page.proofs.Forming.{three-parts, four-parts}
 use Rattle.shown.specs.entries.Entry.{title_of, first_difference}
-use Rattle.shown.specs.Text.{newline, blank, bar, dash, gap, form_is, degrees_are, NIs, age_is, milliseconds, no_age, request_is, bytes_kind, bytes_are}
+use Rattle.shown.specs.Text.{newline, blank, bar, dash, accepted, refused_by, no_reply, gap, form_is, degrees_are, NIs, age_is, milliseconds, no_age, request_is, bytes_kind, bytes_are}
 use Rattle.shown.specs.Text.{too_short, no_request, no_form, no_degree, other_body, values_are, path_is, reply_is, sizes, kinds, bar_kind, answers_are}
 use Rattle.shown.specs.Text.{places_are, counts_are, point_is, the_same, recorded_is, today_is, differ_at, from_nought}
 use Rattle.shown.specs.Asked.{head_text, numbers_text, lists_text, body_text, wish_text, plain_text, aged_text, kind_text, bytes_text, request_text}
 use Rattle.shown.specs.Replied.{point_count, refusal_text, answer_text, answers_text, both_text, heads_text, places_text, point_text, row_text, rows_text, table_text}
 use Rattle.shown.specs.Replied.{gap_of, last_text, marked_text, line_text, marks_text, end_text}
-use Rattle.shown.specs.Forms.{kind_of, wish_of, lacks, side_of, kind_forms, wish_forms, table_form, answer_forms, places_form, row_forms}
-use Rattle.shown.specs.Forms.{last_forms, differ_form}
+use Rattle.shown.specs.Forms.{kind_of, wish_of, lacks, kind_forms, wish_forms, table_form, places_form, row_forms}
+use Rattle.shown.specs.Forms.{differ_form}
 use Rattle.shown.specs.Page.{shown_page}
 
 -- a loop begins with all of a text left
-pub onward-from : (all page : List ℕ) (at : ℕ) (left : List ℕ) → left ≡ all → Onward all page at page at left
-onward-from all page at left e = rw e (onward-none all page at)
+pub onward-from : (all : List ℕ) (old : Paper) (left : List ℕ) → left ≡ all → Onward all old old left
+onward-from all old left e = rw e (onward-none all old)
 
 -- ---- the request
-
-pub head_is : (r : List ℕ) (a b c d : ℕ) → a ≡ get_or r 4 0 → b ≡ get_or r 5 0 → c ≡ get_or r 6 0 → d ≡ get_or r 7 0
-    → record { form = a; first = b; second = c; N = d } ≡ head_in r
-unfolding head_in
-head_is r a b c d p q s t = rw (p, q, s, t)
 
 pub numbers-all : (r : List ℕ) (from count : ℕ) → numbers_text r from 0 (count - 0) ≡ numbers_text r from 0 count
 numbers-all r from count = let all : count - 0 ≡ count = omega arith in ap (λ (n : ℕ). numbers_text r from 0 n) all
@@ -63,6 +61,11 @@ numbers-over r from count k l = let none : count - k ≡ 0 = omega arith in rw n
 pub lists-fit : (from : ℕ) (h : Head) (v p size : ℕ) → v ≡ surface_count h → p ≡ path_count h → body_end from h ≡ size → from + 2 * v + 2 * p ≡ size
 unfolding body_end path_start
 lists-fit from h v p size is also e = rw (is, also) e
+
+-- the place behind a body is small
+pub body-fits : (from : ℕ) (h : Head) (v p : ℕ) → from ≤ aged_start → not_degree h ≡ false → v ≡ surface_count h → p ≡ path_count h
+    → from + 2 * v + 2 * p < 2 ^ 32
+body-fits from h v p early right is also = omega (arith, surface-most h right, path-most h right)
 
 -- which form of what is wished
 module _ (r : List ℕ) (from : ℕ) (h : Head) where
@@ -277,39 +280,18 @@ request-told r mark l =
 -- ---- the replies
 
 module _ (r : List ℕ) (k : ℕ) (is : k ≡ word_at r 2) where
-  pub no-reply : (k ≡ reply_kind → ⊥) → 0 ≡ point_count r
-  unfolding point_count kind_field
-  no-reply e = rw (← is, ne_eqb k reply_kind e)
-
-  pub reply-none : (k ≡ reply_kind → ⊥) → formed 0 answer_forms r r 0 0 ++ name_of 0 ≡ answer_text r
-  unfolding formed told piece marked value_of after width is_mark name_of answer_text kind_field
-  reply-none e = rw (← is, ne_eqb k reply_kind e)
+  pub answer-none : (k ≡ reply_kind → ⊥) → no_reply ≡ answer_text r
+  unfolding answer_text kind_field
+  answer-none e = rw (← is, ne_eqb k reply_kind e)
 
   module _ (right : k ≡ reply_kind) (n : ℕ) (also : n ≡ get_or r 4 0) where
-    pub no-points : (n ≡ 0 → ⊥) → 0 ≡ point_count r
-    unfolding point_count kind_field
-    no-points e = rw (← is, eq-eqb k reply_kind right, ← also, ne_eqb n 0 e)
-
-    pub answer-accepted : n ≡ 0 → formed 1 answer_forms r r 0 0 ++ name_of 0 ≡ answer_text r
-    unfolding formed told piece marked value_of after width is_mark name_of answer_text kind_field
+    pub answer-accepted : n ≡ 0 → accepted ≡ answer_text r
+    unfolding answer_text kind_field
     answer-accepted e = rw (← is, eq-eqb k reply_kind right, ← also, eq-eqb n 0 e)
 
-    refused-text : formed 2 answer_forms r r 0 0 ++ name_of n ≡ refusal_text n
-    unfolding formed told piece marked value_of after width is_mark counted refusal_text
-    refused-text = rw also
-
-    pub answer-refused : (n ≡ 0 → ⊥) → formed 2 answer_forms r r 0 0 ++ name_of n ≡ answer_text r
-    unfolding answer_text kind_field
-    answer-refused e = rw (← is, eq-eqb k reply_kind right, ← also, ne_eqb n 0 e) refused-text
-
-    module _ (zero : n ≡ 0) (c : ℕ) (counts : c ≡ get_or r 6 0) where
-      pub other-size : (start + 2 * c ≡ length r → ⊥) → 0 ≡ point_count r
-      unfolding point_count kind_field
-      other-size e = rw (← is, eq-eqb k reply_kind right, ← also, eq-eqb n 0 zero, ← counts, ne_eqb _ _ e)
-
-      pub points-are : start + 2 * c ≡ length r → c ≡ point_count r
-      unfolding point_count kind_field
-      points-are e = rw (← is, eq-eqb k reply_kind right, ← also, eq-eqb n 0 zero, ← counts, eq-eqb _ _ e)
+    pub answer-refused : (n ≡ 0 → ⊥) → counted refused_by n ++ blank ++ name_of n ≡ answer_text r
+    unfolding answer_text kind_field refusal_text
+    answer-refused e = rw (← is, eq-eqb k reply_kind right, ← also, ne_eqb n 0 e)
 
 heads-parts : (r s x b y k l m : List ℕ) → r ++ s ++ (x ++ (b ++ (y ++ (k ++ (l ++ m))))) ≡ r ++ (s ++ x ++ (b ++ y)) ++ k ++ l ++ m
 heads-parts r s x b y k l m = simp append_assoc
@@ -340,16 +322,7 @@ table-told a b m n c p q e =
     (table-parts (heads_text a b) answers_are (answer_text a) bar (answer_text b) (both_text places_are (get_or a 5 0) (get_or b 5 0))
     (both_text counts_are (get_or a 6 0) (get_or b 6 0)) (rows_text a b 0 (max (point_count a) (point_count b))))
 
--- a reply that lacks a point
-module _ (r : List ℕ) (k n : ℕ) (is : n ≡ point_count r) where
-  pub point-there : k < n → 0 ≡ lacks r k
-  unfolding lacks
-  point-there l = rw (← is, lt-ltb k n l)
-
-  pub point-lacking : n ≤ k → 1 ≡ lacks r k
-  unfolding lacks
-  point-lacking l = rw (← is, le-ltb k n l)
-
+-- a row, by which of the replies lack its point
 module _ (a b : List ℕ) (k : ℕ) where
   row-of : (t u : Bool) → formed (cond t 0 1 + 2 * cond u 0 1) row_forms a b k (8 + 2 * k)
       ≡ counted point_is k ++ cond t (numbered gap (number_at a start k)) (gap ++ dash) ++ cond u (numbered bar (number_at b start k)) (bar ++ dash)
@@ -362,6 +335,11 @@ module _ (a b : List ℕ) (k : ℕ) where
   row_told : (f g : ℕ) → f ≡ lacks a k → g ≡ lacks b k → formed (f + 2 * g) row_forms a b k (8 + 2 * k) ≡ row_text a b k
   unfolding lacks row_text point_text
   row_told f g e h = rw (e, h) (row-of (ltb k (point_count a)) (ltb k (point_count b)))
+
+-- a truth as a byte
+pub as_byte : (t : Bool) → bool_byte t ≡ cond t 1 0
+as_byte true = refl
+as_byte false = refl
 
 pub rows_all : (a b : List ℕ) (count : ℕ) → rows_text a b 0 (count - 0) ≡ rows_text a b 0 count
 rows_all a b count = let all : count - 0 ≡ count = omega arith in ap (λ (n : ℕ). rows_text a b 0 n) all
@@ -379,39 +357,6 @@ rows-over a b count k l = let none : count - k ≡ 0 = omega arith in rw none
 
 -- ---- the bytes, the first that differs in brackets
 
-module _ (mark k : ℕ) where
-  pub side-at : k ≡ mark → 0 ≡ side_of mark k
-  unfolding side_of
-  side-at e = rw (eq-eqb k mark e)
-
-  module _ (other : k ≡ mark → ⊥) where
-    pub side-behind : k ≡ suc mark → 1 ≡ side_of mark k
-    unfolding side_of
-    side-behind e = rw (ne_eqb k mark other, eq-eqb k (suc mark) e)
-
-    pub side-none : (k ≡ suc mark → ⊥) → 2 ≡ side_of mark k
-    unfolding side_of
-    side-none e = rw (ne_eqb k mark other, ne_eqb k (suc mark) e)
-
-  gap-of : (t u : Bool) → ◌≡◌ {A = ℕ} (get_or (91 ∷ 93 ∷ 32 ∷ []) (cond t 0 (cond u 1 2)) 0) (cond t 91 (cond u 93 32))
-  gap-of true u = refl
-  gap-of false true = refl
-  gap-of false false = refl
-
-  pub gap-told : (s : ℕ) → s ≡ side_of mark k → get_or (91 ∷ 93 ∷ 32 ∷ []) s 0 ≡ gap_of mark k
-  unfolding side_of gap_of
-  gap-told s e = rw e (gap-of (eqb k mark) (eqb k (suc mark)))
-
-  last-of : (r : List ℕ) (t u : Bool) → formed (cond t 0 (cond u 1 2)) last_forms r r 0 0 ≡ cond t (91 ∷ 93 ∷ []) (cond u (93 ∷ []) []) ++ newline
-  unfolding formed told piece marked value_of after width is_mark
-  last-of r true u = refl
-  last-of r false true = refl
-  last-of r false false = refl
-
-  pub last-told : (r : List ℕ) (s : ℕ) → s ≡ side_of mark k → formed s last_forms r r 0 0 ≡ last_text mark k ++ newline
-  unfolding side_of last_text
-  last-told r s e = rw e (last-of r (eqb k mark) (eqb k (suc mark)))
-
 pub line_word : (word : List ℕ) (mark : ℕ) (l : List ℕ) → line_text word mark l ≡ word ++ (marked_text mark 0 l ++ newline)
 unfolding line_text
 line_word word mark l = append_assoc word (marked_text mark 0 l) newline
@@ -421,10 +366,10 @@ pub mark-next : (mark : ℕ) (l : List ℕ) (k g b : ℕ) → k < length l → g
 unfolding marked_text byte_shown
 mark-next mark l k g b m p q = rw (drop-cons l k 0 m, p, q, add-one k)
 
-pub marks-over : (mark : ℕ) (l : List ℕ) (k s : ℕ) → length l ≤ k → s ≡ side_of mark k
-    → marked_text mark k (drop k l) ++ newline ≡ formed s last_forms l l 0 0 ++ []
+pub marks-over : (mark : ℕ) (l : List ℕ) (k : ℕ) (last : List ℕ) → k ≡ length l → last ≡ last_text mark (length l) ++ newline
+    → marked_text mark k (drop k l) ++ newline ≡ last ++ []
 unfolding marked_text
-marks-over mark l k s m e = rw (drop_of_length-le l {i = k} m, append-nil) (sym (last-told mark k l s e))
+marks-over mark l k last m e = rw (drop_of_length-le l {i = k} (omega arith), m, append-nil, e) refl
 
 module _ (a b : List ℕ) (d : ℕ) (is : d ≡ first_difference a b) where
   pub in-neither : max (length a) (length b) ≤ d → 10 ∷ the_same ≡ newline ++ end_text a b

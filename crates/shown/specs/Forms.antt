@@ -1,25 +1,38 @@
 -- The page's forms (crates/page/specs/Form.antt), and which of several is put. No reader has to believe them: that their texts are those that
 -- Asked.antt and Replied.antt say is proved. Assumes nothing.
-use Rattle.std.specs.Prelude.{cond, List, [], ◌∷◌, ℕ, suc, eqb, ltb, length}
+use Rattle.std.specs.Prelude.{cond, List, [], ◌∷◌, ℕ, eqb, ltb, length}
 use Rattle.request.specs.declared.Head.{Head}
 use Rattle.request.specs.Refusal.{not_kind, not_degree}
 use Rattle.wire.specs.Start.{kind_field}
 use Rattle.judgement.specs.Record.{request_kind, aged_kind, aged_start, body_end}
+use Rattle.shown.specs.declared.asked.Kind.{Kind}
+use Rattle.shown.specs.declared.asked.Kind.TheVariants.{Plain, Aged, Short, Other}
+use Rattle.shown.specs.declared.asked.Wish.{Wish}
+use Rattle.shown.specs.declared.asked.Wish.TheVariants.{NoForm, NoDegree, OtherBody, Whole}
 use Rattle.shown.specs.Replied.{point_count}
 
 unfoldable pub kind_of : List ℕ → ℕ
 kind_of r = cond (eqb (kind_field r) request_kind) 0 (cond (eqb (kind_field r) aged_kind) (cond (ltb (length r) aged_start) 2 1) 3)
 
+-- the form of each
+abbrev pub kind_form : Kind → ℕ
+kind_form Plain = 0
+kind_form Aged = 1
+kind_form Short = 2
+kind_form Other = 3
+
 unfoldable pub wish_of : List ℕ → ℕ → Head → ℕ
 wish_of r from h = cond (not_kind h) 0 (cond (not_degree h) 1 (cond (eqb (body_end from h) (length r)) 3 2))
+
+abbrev pub wish_form : Wish → ℕ
+wish_form NoForm = 0
+wish_form NoDegree = 1
+wish_form OtherBody = 2
+wish_form Whole = 3
 
 -- whether a reply lacks a point
 unfoldable pub lacks : List ℕ → ℕ → ℕ
 lacks r k = cond (ltb k (point_count r)) 0 1
-
--- where byte k stands: at the mark, behind it, or elsewhere
-unfoldable pub side_of : ℕ → ℕ → ℕ
-side_of mark k = cond (eqb k mark) 0 (cond (eqb k (suc mark)) 1 2)
 
 -- `\n  there is no such form;\n  a degree or N is beyond its bounds;\n  the body is not as long as the degrees say;\n  control values in 0.01 mm:`
 abbrev pub wish_forms : List ℕ
@@ -39,22 +52,11 @@ table_form =
     ∷ 121 ∷ 116 ∷ 101 ∷ 115 ∷ 32 ∷ 32 ∷ 32 ∷ 32 ∷ 38 ∷ 49 ∷ 32 ∷ 124 ∷ 32 ∷ 38 ∷ 65 ∷ 10 ∷ 32 ∷ 32 ∷ 107 ∷ 105 ∷ 110 ∷ 100 ∷ 32 ∷ 32 ∷ 32 ∷ 32
     ∷ 32 ∷ 48 ∷ 120 ∷ 36 ∷ 50 ∷ 32 ∷ 124 ∷ 32 ∷ 48 ∷ 120 ∷ 36 ∷ 66 ∷ 10 ∷ 32 ∷ 32 ∷ 97 ∷ 110 ∷ 115 ∷ 119 ∷ 101 ∷ 114 ∷ 32 ∷ 32 ∷ 32 ∷ []
 
--- `not a reply;accepted;refused #4 `
-abbrev pub answer_forms : List ℕ
-answer_forms =
-    110 ∷ 111 ∷ 116 ∷ 32 ∷ 97 ∷ 32 ∷ 114 ∷ 101 ∷ 112 ∷ 108 ∷ 121 ∷ 59 ∷ 97 ∷ 99 ∷ 99 ∷ 101 ∷ 112 ∷ 116 ∷ 101 ∷ 100 ∷ 59 ∷ 114 ∷ 101 ∷ 102 ∷ 117
-    ∷ 115 ∷ 101 ∷ 100 ∷ 32 ∷ 35 ∷ 52 ∷ 32 ∷ []
-
 -- `\n  place    #5 | #E\n  count    #6 | #F`
 abbrev pub places_form : List ℕ
 places_form =
     10 ∷ 32 ∷ 32 ∷ 112 ∷ 108 ∷ 97 ∷ 99 ∷ 101 ∷ 32 ∷ 32 ∷ 32 ∷ 32 ∷ 35 ∷ 53 ∷ 32 ∷ 124 ∷ 32 ∷ 35 ∷ 69 ∷ 10 ∷ 32 ∷ 32 ∷ 99 ∷ 111 ∷ 117 ∷ 110 ∷ 116
     ∷ 32 ∷ 32 ∷ 32 ∷ 32 ∷ 35 ∷ 54 ∷ 32 ∷ 124 ∷ 32 ∷ 35 ∷ 70 ∷ []
-
--- `[]\n;]\n;\n`
-abbrev pub last_forms : List ℕ
-last_forms =
-    91 ∷ 93 ∷ 10 ∷ 59 ∷ 93 ∷ 10 ∷ 59 ∷ 10 ∷ []
 
 -- `they differ at byte !1, counted from 0\n`
 abbrev pub differ_form : List ℕ

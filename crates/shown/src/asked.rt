@@ -2,120 +2,117 @@
 ghost use Rattle.std.specs.Prelude.{◌≡◌, ◌++◌, ◌+◌, ◌*◌, ◌≤◌, ◌<◌, length};
 ghost use Rattle.wire.specs.Start.{kind_field};
 ghost use Rattle.judgement.specs.Record.{aged_start, head_in};
-ghost use Rattle.page.specs.Page.{Puts, counted, hexed};
+ghost use Rattle.page.specs.Page.{counted, hexed};
+ghost use Rattle.page.specs.Paper.{Adds};
 ghost use Rattle.shown.specs.Text.{newline, request_is, bytes_kind};
-ghost use Rattle.shown.specs.Forms.{kind_of, wish_of};
+ghost use Rattle.shown.specs.Forms.{kind_of, kind_form, wish_of, wish_form};
 ghost use Rattle.shown.specs.Asked.{numbers_text, wish_text, kind_text};
 
-use page::{put, put_form, put_number};
+use page::Paper;
 use request::Head;
-use wire::{byte_at, number_at, word_at};
-
-fn head_in(request: &[u8]) -> Head
-    ensures { result ≡ head_in request.now }
-{
-    Head {
-        form: byte_at(request, 4) as u32,
-        first: byte_at(request, 5) as u32,
-        second: byte_at(request, 6) as u32,
-        N: byte_at(request, 7) as u32,
-    }
-}
+use wire::{number_at, word_at};
 
 // Numbers that begin at byte `from`, each after a blank.
-fn put_numbers(request: &[u8], from: usize, count: usize, page: &mut [u8], at: usize) -> usize
+fn put_numbers(request: &[u8], from: usize, count: usize, paper: &mut Paper)
     requires { from + 2 * count ≤ length request.now }
-    ensures { Puts page.old at (numbers_text request.now from 0 count) page.new result }
+    ensures { Adds paper.old (numbers_text request.now from 0 count) paper.new }
 {
-    let mut end = at;
-    let mut k = 0;
-    while k < count {
-        end = put_number(b" ", number_at(request, from + 2 * k), page, end);
-        k += 1;
+    for k in 0..count {
+        paper.put_number(b" ", number_at(request, from + 2 * k));
     }
-    end
 }
 
-// Which form: no such form, a degree beyond its bounds, a body of another length, or one as long as the degrees say.
-fn wish(head: Head, request: &[u8], from: usize) -> u8
+// What a head asks for: no such form, a degree beyond its bounds, a body of another length, or one as long as the degrees say. Each is
+// told by the form of its number.
+#[derive(Clone, Copy)]
+enum Wish {
+    NoForm,
+    NoDegree,
+    OtherBody,
+    Whole,
+}
+
+fn wish_in(head: Head, request: &[u8], from: usize) -> Wish
     requires { from ≤ aged_start }
-    ensures { result ≡ wish_of request.now from head }
+    ensures { wish_form result ≡ wish_of request.now from head }
 {
     if request::not_kind(head) {
-        return 0;
+        return Wish::NoForm;
     }
     if request::not_degree(head) {
-        return 1;
+        return Wish::NoDegree;
     }
     let values = request::surface_count(head);
     let path = request::path_count(head);
     if from + 2 * values + 2 * path != request.len() {
-        return 2;
+        return Wish::OtherBody;
     }
-    3
+    Wish::Whole
 }
 
 // The control values and the path are told where the record is as long as the degrees say.
-fn put_wish(request: &[u8], from: usize, page: &mut [u8], at: usize) -> usize
+fn put_wish(request: &[u8], from: usize, paper: &mut Paper)
     requires { from ≤ aged_start }
-    ensures { Puts page.old at (wish_text request.now from (head_in request.now)) page.new result }
+    ensures { Adds paper.old (wish_text request.now from (head_in request.now)) paper.new }
 {
-    let head = head_in(request);
-    let k = wish(head, request, from);
-    let a = put_form(
-        k,
+    let head = judgement::open_record(request).head;
+    let wish = wish_in(head, request, from);
+    paper.put_form(
+        wish as u8,
         b"\n  there is no such form;\n  a degree or N is beyond its bounds;\n  the body is not as long as the degrees say;\n  control values in 0.01 mm:",
         request,
         request,
         0,
         0,
-        page,
-        at,
     );
-    if k != 3 {
-        return a;
+    match wish {
+        Wish::NoForm | Wish::NoDegree | Wish::OtherBody => return,
+        Wish::Whole => {}
     }
     let values = request::surface_count(head);
     let path = request::path_count(head);
-    let b = put_numbers(request, from, values, page, a);
-    let c = put(b"\n  path in 1/1024:", page, b);
-    put_numbers(request, from + 2 * values, path, page, c)
+    put_numbers(request, from, values, paper);
+    paper.put(b"\n  path in 1/1024:");
+    put_numbers(request, from + 2 * values, path, paper);
 }
 
-// Which form: without an age, with one, too short for one, or no request.
-fn kind_of(request: &[u8]) -> u8
-    ensures { (result ≡ kind_of request.now) × (result < 4) }
+// What a request's kind and length say: no age, an age, too short for one, or no request. Each is told by the form of its number.
+#[derive(Clone, Copy)]
+enum Kind {
+    Plain,
+    Aged,
+    Short,
+    Other,
+}
+
+#[tactic(auto, unfolding(crate::specs::Forms::kind_of, wire::specs::Start::kind_field))]
+fn kind_of(request: &[u8]) -> Kind
+    ensures { kind_form result ≡ kind_of request.now }
 {
-    let kind = word_at(request, 2);
-    if kind == 1 {
-        return 0;
+    match word_at(request, 2) {
+        1 => Kind::Plain,
+        2 if request.len() < 10 => Kind::Short,
+        2 => Kind::Aged,
+        _ => Kind::Other,
     }
-    if kind != 2 {
-        return 3;
-    }
-    if request.len() < 10 {
-        return 2;
-    }
-    1
 }
 
 // Behind a newline: how many bytes it has, its kind, and what that kind holds.
-pub fn put_kind(request: &[u8], page: &mut [u8], at: usize) -> usize
-    ensures { Puts page.old at (newline ++ (counted request_is (length request.now) ++ hexed bytes_kind (kind_field request.now)) ++ kind_text request.now) page.new result }
+pub fn put_kind(request: &[u8], paper: &mut Paper)
+    ensures { Adds paper.old (newline ++ (counted request_is (length request.now) ++ hexed bytes_kind (kind_field request.now)) ++ kind_text request.now) paper.new }
 {
-    let k = kind_of(request);
-    let a = put_form(
-        k,
+    let kind = kind_of(request);
+    paper.put_form(
+        kind as u8,
         b"\nrequest   &1 bytes, kind 0x$2: form #4, degrees #5 #6, N #7, no age;\nrequest   &1 bytes, kind 0x$2: form #4, degrees #5 #6, N #7, age !1 ms;\nrequest   &1 bytes, kind 0x$2: too short for an age;\nrequest   &1 bytes, kind 0x$2: not a request's",
         request,
         request,
         word_at(request, 8),
         0,
-        page,
-        at,
     );
-    if 1 < k {
-        return a;
+    match kind {
+        Kind::Plain => put_wish(request, 8, paper),
+        Kind::Aged => put_wish(request, 10, paper),
+        Kind::Short | Kind::Other => {}
     }
-    put_wish(request, 8 + 2 * k as usize, page, a)
 }

@@ -7,6 +7,7 @@ pub use ending::put_ending;
 pub use entry::{first_difference, put_entry, put_title};
 
 // Which of a line's forms, and the numbers in it.
+// kept: put_form takes just these three; an enum of the lines would only be taken apart into them again, and so is no plainer.
 #[derive(Clone, Copy)]
 struct Line {
     form: u8,

@@ -7,20 +7,12 @@ mod entries;
 mod marked;
 mod replied;
 
-ghost use Rattle.std.specs.Prelude.{◌≡◌, max};
+ghost use Rattle.std.specs.Prelude.{◌≡◌};
 ghost use Rattle.page.specs.Page.{Puts};
 ghost use Rattle.shown.specs.Page.{shown_page};
 
 pub use entries::{put_ending, put_entry};
-
-fn larger(a: usize, b: usize) -> usize
-    ensures { result ≡ max a b }
-{
-    if a < b {
-        return b;
-    }
-    a
-}
+use page::Paper;
 
 // The page of a pair.
 pub fn put_page(
@@ -33,9 +25,11 @@ pub fn put_page(
 ) -> usize
     ensures { Puts page.old 0 (shown_page number offset request.now recorded.now today.now) page.new result }
 {
-    let a = crate::entries::put_title(number, offset, page, 0);
-    let b = asked::put_kind(request, page, a);
-    let c = marked::put_line(b"\n  bytes:", request.len() + 1, request, page, b);
-    let d = replied::put_table(recorded, today, page, c);
-    marked::put_end(recorded, today, page, d)
+    let mut paper = Paper { bytes: page, at: 0 };
+    crate::entries::put_title(number, offset, &mut paper);
+    asked::put_kind(request, &mut paper);
+    marked::put_line(b"\n  bytes:", request.len() + 1, request, &mut paper);
+    replied::put_table(recorded, today, &mut paper);
+    marked::put_end(recorded, today, &mut paper);
+    paper.at
 }

@@ -1,12 +1,15 @@
 -- Laws of writing one thing after another into a buffer. Assumes nothing.
-use mathlib.Core.Path.{◌≡◌, refl, sym, ap, ◌∙◌, subst}
-use mathlib.Core.List.{List, [], ◌∷◌, ◌++◌}
-use Prim.Native.Nat.{ℕ, suc, ◌+◌, ◌≤◌, ◌<◌}
+use mathlib.Core.Path.{◌≡◌, refl, sym, ap, ◌∙◌}
+use mathlib.Core.List.{List, [], ◌∷◌, ◌++◌, append_assoc}
+use Prim.Native.Nat.{ℕ, suc, ◌+◌, ◌-◌, ◌≤◌, ◌<◌}
 use native.Mathlib.Nat.{add-zero, zero-add}
 use native.Mathlib.Numerals.{add-one}
 use native.Mathlib.Omega.{arith}
-use lib.ListN.{length, get_or, take, drop, set, length-append, length-set}
-use lib.Seq.{sets, sets-eq, length-sets, take_all, take_at, take-suc}
+use lib.ListN.{length, take, drop, set, length-append}
+use lib.Seq.{sets, sets-eq, length-sets, take_at}
+use borrow.Rule.Slice.PartMut.{put_mid}
+use Rattle.std.proofs.lemmas.Slice.{put_mid-paste}
+use Rattle.std.proofs.lemmas.List.Edits.{paste_all}
 use borrow.Author.Tests.{lt-ltb, le-ltb}
 use Rattle.spell.specs.Decimal.{Front, Written, Told}
 
@@ -54,30 +57,12 @@ module _ (most : ℕ) (l : List ℕ) (i : ℕ) (a : List ℕ) (m : List ℕ) (j 
     small = omega (arith, w.small, x.small);
   }
 
--- a loop over bytes: k of them are written
-pub record Copying (s : List ℕ) (l : List ℕ) (i : ℕ) (m : List ℕ) (k : ℕ) : Type 0 where
-  pub upto : k ≤ length s
-  pub size : length m ≡ length l
-  pub so_far : Written k l i (take k s) m (i + k)
-
-pub copying-none : (s : List ℕ) (l : List ℕ) (i : ℕ) → Copying s l i l 0
-copying-none s l i = record { upto = omega arith; size = refl; so_far = rw add-zero (written_none 0 l i [] l i) }
-
-module _ (s : List ℕ) (l : List ℕ) (i : ℕ) (m : List ℕ) (k : ℕ) (c : Copying s l i m k) where
-  pub copying-more : k < length s → Copying s l i (set m (i + k) (get_or s k 0)) (k + 1)
-  copying-more h = record {
-    upto = omega arith;
-    size = length-set m (i + k) _ ∙ c.size;
-    so_far =
-        let e : i + (k + 1) ≡ i + k + 1 = omega arith in
-        rw (e, add-one k, take-suc s k 0 h, ← add-one k)
-        (written_then k l i (take k s) m (i + k) 1 _ _ _ c.so_far (written-first 0 m (i + k) [] _ _ _ (written_none 0 _ _ [] l 0)));
-  }
-
-  pub copying-all : length s ≤ k → Written (length s) l i s m (i + k)
-  copying-all h =
-      let e : k ≡ length s = omega arith in
-      rw (← e) (subst (λ t. Written k l i t m (i + k)) (take_all k s (omega arith)) c.so_far)
+-- bytes that were copied to a place are written there
+pub copied : (bytes l now : List ℕ) (i : ℕ) → i + length bytes ≤ length l → now ≡ bytes
+    → put_mid i (i + length bytes - i) l now ≡ sets l i bytes
+copied bytes l now i fits is =
+    put_mid-paste i (i + length bytes - i) l now bytes (length bytes) is (omega arith) refl
+    ∙ paste_all l i bytes (length bytes) refl ∙ sym (append_assoc (take i l) bytes _) ∙ sym (sets-eq bytes l i fits)
 
 -- no room; all is written; and what is written stands at the front
 module _ (room : ℕ) (bytes l : List ℕ) where

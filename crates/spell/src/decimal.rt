@@ -10,11 +10,11 @@ fn write_digits(n: u64, out: &mut [u8], at: usize) -> usize
     ensures { Written (length (digits n)) out.old at (digits n) out.new result }
 {
     if n < 10 {
-        out[at] = 48 + n as u8;
+        out[at] = b'0' + n as u8;
         return at + 1;
     }
     let next = write_digits(n / 10, out, at);
-    out[next] = 48 + (n % 10) as u8;
+    out[next] = b'0' + (n % 10) as u8;
     next + 1
 }
 
@@ -31,9 +31,10 @@ pub fn write_number(n: Num, out: &mut [u8], at: usize) -> usize
     requires { at + 20 ≤ length out.old }
     ensures { Written 20 out.old at (decimal n.0) out.new result }
 {
+    let size = whole::size(n);
     if whole::negative(n) {
         out[at] = b'-';
-        return write_digits(whole::size(n), out, at + 1);
+        return write_digits(size, out, at + 1);
     }
-    write_digits(whole::size(n), out, at)
+    write_digits(size, out, at)
 }

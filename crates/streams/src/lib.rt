@@ -5,15 +5,11 @@
 pub mod source;
 
 ghost use Rattle.std.specs.Prelude.{◌≡◌, ◌+◌, pos, take};
-ghost use Rattle.std.specs.Int.Signed.{lt_z};
-ghost use Rattle.std.specs.Io.{ReadsAtMost};
 ghost use Rattle.io.specs.Counts.{IsPrefixLen};
 ghost use Rattle.capped.specs.Capped.{capped};
 ghost use Rattle.streams.specs.Stream.{opened, Through, Wrote};
 
 pub use source::Source;
-use std::io::Result;
-
 // The descriptors of the standard output and of standard error, as every process has them.
 const STDOUT_FILENO: i32 = 1;
 
@@ -25,6 +21,7 @@ const STDERR_FILENO: i32 = 2;
 pub struct Stream {
     fd: i32,
     pub count: u64,
+    // kept: `Through`, `Wrote` and `opened`, which every contract above cites, read these fields (decision 160)
     pub failed: bool,
 }
 
@@ -35,21 +32,15 @@ pub struct Got {
     pub stream: Stream,
 }
 
-// Whether there is no descriptor.
-fn is_none(fd: i32) -> bool
-    ensures { result ≡ lt_z fd (pos 0) }
-{
-    fd < 0
-}
-
 // A stream of this descriptor; it has failed where there is none.
+#[tactic(auto, unfolding(crate::specs::Stream::opened))]
 pub fn on(fd: i32) -> Stream
     ensures { result ≡ opened fd }
 {
     Stream {
         fd,
         count: 0,
-        failed: is_none(fd),
+        failed: fd < 0,
     }
 }
 
@@ -72,31 +63,15 @@ pub fn standard_error() -> Stream
     on(STDERR_FILENO)
 }
 
-fn wide(n: usize) -> u64
-    ensures { result ≡ n }
-{
-    n as u64
-}
-
 // The stream behind so many bytes more.
+// kept: whether the call failed is a value of the stream, and switches nothing here
 fn behind(stream: Stream, bytes: usize, failed: bool) -> Stream
     ensures { result ≡ record { fd = stream.fd; count = capped (stream.count + bytes); failed = failed } }
 {
     Stream {
         fd: stream.fd,
-        count: capped::sum(stream.count, wide(bytes)),
+        count: capped::sum(stream.count, bytes as u64),
         failed,
-    }
-}
-
-// How many bytes a read gave: none where it failed.
-fn given(got: &Result<usize>, part: &[u8]) -> usize
-    requires { ReadsAtMost got.now part.now }
-    ensures { IsPrefixLen result part.now }
-{
-    match got {
-        Ok(count) => *count,
-        Err(_) => 0,
     }
 }
 
@@ -105,10 +80,11 @@ pub fn read(from: Stream, source: &Source, part: &mut [u8]) -> Got
     ensures { IsPrefixLen result.count part.new × Through from (take result.count part.new) result.stream }
 {
     let got = source::read_part(source, part);
-    let count = given(&got, part);
+    let failed = got.is_err();
+    let count = got.unwrap_or(0);
     Got {
         count,
-        stream: behind(from, count, got.is_err()),
+        stream: behind(from, count, failed),
     }
 }
 

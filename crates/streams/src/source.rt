@@ -12,6 +12,7 @@ use std::os::fd::AsRawFd;
 use std::rt::HostRuntime;
 
 // Nothing, standard input, or a file.
+// kept: three cases, so that it is no Option
 #[derive(Drop)]
 enum Place {
     Nowhere,
@@ -96,12 +97,8 @@ pub(crate) fn read_part(source: &Source, part: &mut [u8]) -> Result<usize>
 {
     for _ in 0..u64::MAX {
         match read_once(source, part) {
-            Ok(count) => return Ok(count),
-            Err(e) => {
-                if e.kind() != ErrorKind::Interrupted {
-                    return Err(e);
-                }
-            }
+            Err(e) if e.kind() == ErrorKind::Interrupted => {}
+            read => return read,
         }
     }
     Err(Error::from(ErrorKind::Interrupted))
@@ -129,10 +126,7 @@ fn standard_size(rt: HostRuntime) -> Result<u64> {
         return Ok(0);
     }
     let found = metadata(&rt, "/proc/self/fd/0")?;
-    if found.is_file() {
-        return Ok(found.len());
-    }
-    Ok(0)
+    Ok(if found.is_file() { found.len() } else { 0 })
 }
 
 fn known_size(source: &Source) -> Result<u64> {
@@ -145,8 +139,5 @@ fn known_size(source: &Source) -> Result<u64> {
 
 // How many bytes an input has that begins here, 0 where that is not known.
 pub fn size_of(source: &Source) -> u64 {
-    match known_size(source) {
-        Ok(size) => size,
-        Err(_) => 0,
-    }
+    known_size(source).unwrap_or(0)
 }

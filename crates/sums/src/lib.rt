@@ -20,6 +20,7 @@ ghost use Rattle.sums.specs.Filled.{term_numbers, Filled};
 ghost use Rattle.sums.specs.Loaded.{read_three, stacked, LoadedBox, LoadedTriangle};
 ghost use Rattle.sums.specs.Contract.{places, Summed, Formed};
 
+use crate::gather::Run;
 use crate::steps::{Three, Two};
 use request::Head;
 use whole::Num;
@@ -30,13 +31,11 @@ use whole::Num;
 fn numbers(head: Head) -> usize
     ensures { (result ≡ numbers head) × (result ≤ 3) }
 {
-    if head.form == 1 {
-        return 1;
+    match head.form {
+        1 => 1,
+        2 => 2,
+        _ => 3,
     }
-    if head.form == 2 {
-        return 2;
-    }
-    3
 }
 
 // The second number of point c, and 0 where a point has one.
@@ -68,13 +67,11 @@ fn fill(head: Head, path: &[i32], t: &mut [u32; 40])
     ensures { Filled head path.now t.new }
 {
     let n = head.N as usize;
-    let mut c = 0;
-    while c <= n {
-        let per = numbers(head);
+    let per = numbers(head);
+    for c in 0..n + 1 {
         let a = request::units::path_size_at(path, per * c);
         let b = beside(path, per, c);
         store_term(t, c, c as u64, pascal::weight(n, c), a, b);
-        c += 1;
     }
 }
 
@@ -98,6 +95,7 @@ fn travels(surface: &[i32], a: usize, b: usize, c: usize) -> Three
 }
 
 // A rectangle has nine numbers at most, in the request's own order.
+// kept: what may not change: `triangle` is handed a slice and asks this of it, and the functions that it calls hand it on.
 fn load_box(surface: &[i32]) -> [i64; 15]
     requires { value_place surface.now ≡ length surface.now }
     ensures { LoadedBox surface.now result }
@@ -150,16 +148,21 @@ fn rectangle(
         (owing t.now count 2 second r 0 (of_group second r) 0 1 (boxed (second + 1) surface.now))
         (duty t.now count 2 second r 0 (of_group second r) 1) }
 {
+    let run = Run {
+        from: 0,
+        begun: crate::gather::of_group(second, r),
+        s: 0,
+        weight: 1,
+    };
     if r == 1 {
         let net = Two {
             a: travel(surface, 0),
             b: travel(surface, 1),
         };
-        return crate::gather::last_row(t, count, second, net, 0, 1, 0, 1, sums);
+        return crate::gather::last_row(t, count, second, net, run, sums);
     }
     let net = load_box(surface);
-    let begun = crate::gather::of_group(second, r);
-    crate::gather::gather_row(t, count, second, &net, r, 0, begun, 0, 1, sums)
+    crate::gather::gather_row(t, count, second, &net, r, run, sums)
 }
 
 // And of a triangle, of form 3 or of a patch.
@@ -170,22 +173,25 @@ pub fn triangle(t: &[u32; 40], count: usize, surface: &[i32], r: usize, sums: &m
         (owing t.now count 0 0 r 0 r 0 1 (stacked r surface.now))
         (duty t.now count 0 0 r 0 r 1) }
 {
+    let run = Run {
+        from: 0,
+        begun: r,
+        s: 0,
+        weight: 1,
+    };
     if r == 1 {
         let net = travels(surface, 0, 1, 2);
-        return crate::gather::last_tri(t, count, net, 0, 1, 0, 1, sums);
+        return crate::gather::last_tri(t, count, net, run, sums);
     }
     let net = load_tri(surface, r);
-    crate::gather::gather_tri(t, count, &net, r, 0, r, 0, 1, sums)
+    crate::gather::gather_tri(t, count, &net, r, run, sums)
 }
 
 // Forms 1 and 2.
 fn flat(head: Head) -> bool
     ensures { result ≡ (eqb head.form 1 || eqb head.form 2) }
 {
-    if head.form == 1 {
-        return true;
-    }
-    head.form == 2
+    head.form == 1 || head.form == 2
 }
 
 // The exact numerators (rule Composed net) of a request that 01 accepts, added to places that are 0: the entries that were formed for it.

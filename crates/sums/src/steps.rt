@@ -6,6 +6,7 @@ ghost use Rattle.sums.specs.steps.Few.{in_two, in_four, in_three, in_six};
 
 use whole::Num;
 
+// kept: the new form is no plainer: the numbers have names in the formulas below, where an array would have indices.
 // The numbers of a net where few arguments are left, in the layout's order: of a rectangle where one is left and where two are,
 // of a triangle likewise.
 #[derive(Clone, Copy)]
@@ -39,19 +40,11 @@ pub struct Six {
     pub f: Num,
 }
 
-// Number k of a net.
-fn at(p: &[i64; 15], k: usize) -> Num
-    requires { k < 15 }
-    ensures { result.0 ≡ get_or p.now k (pos 0) }
-{
-    Num(p[k])
-}
-
 // A number and two zeros.
 pub fn alone(a: Num) -> Three
     ensures { in_three result ≡ a.0 ∷ pos 0 ∷ pos 0 ∷ [] }
 {
-    let b = whole::plus(0);
+    let b = Num(0);
     Three { a, b, c: b }
 }
 
@@ -59,7 +52,7 @@ pub fn alone(a: Num) -> Three
 pub fn none() -> Three
     ensures { in_three result ≡ pos 0 ∷ pos 0 ∷ pos 0 ∷ [] }
 {
-    alone(whole::plus(0))
+    alone(Num(0))
 }
 
 // A net, three by three.
@@ -82,14 +75,16 @@ fn share(x: u64, a: Num) -> Num
 }
 
 // a less b.
+// kept: the new form is no plainer: its contract bounds the difference, which a product asks for in `toward` and in `mix`.
 fn less(a: Num, b: Num) -> Num
     requires { nat_abs a.0 + nat_abs b.0 < 2 ^ 63 }
     ensures { (result.0 ≡ a.0 -ℤ b.0) × (nat_abs result.0 ≤ nat_abs a.0 + nat_abs b.0) }
 {
-    whole::sum(a, whole::product(b, whole::minus(1)))
+    Num(a.0 - b.0)
 }
 
 // s of 1024 of the way from p to q, times 1024: one product beside the shift.
+// kept: the new form is no plainer: a share is read from the table as a number, and a type for it would be taken off again at each product.
 pub fn toward(s: u64, p: Num, q: Num) -> Num
     requires { (s ≤ 1024) × (nat_abs p.0 ≤ 2 ^ 42) × (nat_abs q.0 ≤ 2 ^ 42) }
     ensures { result.0 ≡ between s p.0 q.0 }
@@ -98,6 +93,7 @@ pub fn toward(s: u64, p: Num, q: Num) -> Num
 }
 
 // The same toward two numbers, x of r and y of q.
+// kept: as `toward`.
 pub fn mix(x: u64, y: u64, p: Num, q: Num, r: Num) -> Num
     requires { (x + y ≤ 1024) × (nat_abs p.0 ≤ 2 ^ 42) × (nat_abs q.0 ≤ 2 ^ 42) × (nat_abs r.0 ≤ 2 ^ 42) }
     ensures { result.0 ≡ among x y p.0 q.0 r.0 }
@@ -106,14 +102,16 @@ pub fn mix(x: u64, y: u64, p: Num, q: Num, r: Num) -> Num
 }
 
 // Number k of the rectangle that s makes; gap is how far apart neighbours are.
+// kept: the new form is no plainer: the bound falls with each argument (`entry_most`), so a type for nets would have it as a parameter.
 fn slide(p: &[i64; 15], s: u64, gap: usize, k: usize) -> Num
     requires { (s ≤ 1024) × (gap < 15) × (k + gap < 15) × Small p.now (2 ^ 42) }
     ensures { result.0 ≡ between s (get_or p.now k (pos 0)) (get_or p.now (k + gap) (pos 0)) }
 {
-    toward(s, at(p, k), at(p, k + gap))
+    toward(s, Num(p[k]), Num(p[k + gap]))
 }
 
 // A rectangle of `count` numbers, four or six.
+// kept: the new form is no plainer: `gap` is worked out once a loop and handed to one of three functions.
 pub fn slid(p: &[i64; 15], s: u64, gap: usize, count: usize) -> [i64; 15]
     requires { (s ≤ 1024) × (gap ≤ 5) × (count ≤ 6) × Small p.now (2 ^ 42) }
     ensures { Slid p.now s gap count result }
@@ -143,6 +141,7 @@ pub fn row_two(p: &[i64; 15], s: u64, gap: usize) -> Two
 }
 
 // Of three, and of four where it is two wide: no other number is formed.
+// kept: the new form is no plainer: `wide` says how many numbers there are, as the clause has it.
 pub fn row_four(p: &[i64; 15], s: u64, gap: usize, wide: bool) -> Four
     requires { (s ≤ 1024) × (gap ≤ 5) × Small p.now (2 ^ 42) }
     ensures { Slid p.now s gap (cond wide 4 3) (in_four result) }
@@ -154,15 +153,11 @@ pub fn row_four(p: &[i64; 15], s: u64, gap: usize, wide: bool) -> Four
         let d = slide(p, s, gap, 3);
         return Four { a, b, c, d };
     }
-    Four {
-        a,
-        b,
-        c,
-        d: whole::plus(0),
-    }
+    Four { a, b, c, d: Num(0) }
 }
 
 // The two numbers that s makes of these.
+// kept: the new form is no plainer: `wide` says which numbers are neighbours.
 pub fn four_two(p: Four, wide: bool, s: u64) -> Two
     requires { (s ≤ 1024) × Small (in_four p) (2 ^ 42) }
     ensures { Slid (in_four p) s (cond wide 2 1) 2 (in_two result) }
@@ -183,7 +178,7 @@ fn tri(p: &[i64; 15], x: u64, y: u64, k: usize, next: usize) -> Num
     ensures { result.0 ≡ among x y (get_or p.now k (pos 0))
         (get_or p.now next (pos 0)) (get_or p.now (next + 1) (pos 0)) }
 {
-    mix(x, y, at(p, k), at(p, next), at(p, next + 1))
+    mix(x, y, Num(p[k]), Num(p[next]), Num(p[next + 1]))
 }
 
 // A triangle of ten numbers.

@@ -5,11 +5,13 @@ use mathlib.Core.Bool.{true, false}
 use mathlib.Core.List.{List, [], ◌∷◌, ◌++◌, map}
 use Prim.Native.Nat.{ℕ}
 use lib.IntN.{pos}
-use Rattle.text.specs.words.Words.{is_blank, is_solid, is_digit, run, every, word_after, next, spelled, signed, digits_within, number_of, begins, is_age, age_of}
+use Rattle.text.specs.words.Words.{is_blank, is_solid, is_digit, run, every, word_after, next, spelled, signed, size_within, number_of, begins, is_age, age_of}
 use Rattle.text.specs.declared.words.Cursor.{Cursor}
-use Rattle.text.specs.numbers.Numbers.{number, headed, value, after_values, values, listed}
+use Rattle.text.specs.declared.words.Wrong.TheVariants.{NotNumber, Outside, LeftOver}
+use Rattle.std.proofs.Common.{Some, None}
+use Rattle.text.specs.numbers.Numbers.{taken, number, headed, value, after_values, values, listed}
 use Rattle.text.specs.kinds.Kinds.{begun, ended}
-use Rattle.text.specs.Line.{Said, aged, request, said}
+use Rattle.text.specs.Line.{Said, age_at, aged, request, said}
 use Rattle.text.specs.rooms.Shown.{roomed}
 use Rattle.text.specs.declared.rooms.Rooms.{Rooms}
 
@@ -44,15 +46,15 @@ says cursor rooms age = record {
   age = age;
 }
 
-lines_are : map said lines ≡ says (record { start = 20; end = 24; wrong = 0 }) own 0
-    ∷ says (record { start = 29; end = 36; wrong = 0 }) (record { given = true; exact = 4; points = 3 }) 251
-    ∷ says (record { start = 25; end = 30; wrong = 0 }) own 7
-    ∷ says (record { start = 25; end = 29; wrong = 4 }) own 0
-    ∷ says (record { start = 25; end = 30; wrong = 1 }) own 0
-    ∷ says (record { start = 25; end = 34; wrong = 2 }) own 0
-    ∷ says (record { start = 25; end = 30; wrong = 4 }) own 0
-    ∷ says (record { start = 31; end = 32; wrong = 4 }) own 1
+lines_are : map said lines ≡ says (record { start = 20; end = 24; wrong = None }) own 0
+    ∷ says (record { start = 29; end = 36; wrong = None }) (record { given = true; exact = 4; points = 3 }) 251
+    ∷ says (record { start = 25; end = 30; wrong = None }) own 7
+    ∷ says (record { start = 25; end = 29; wrong = Some LeftOver }) own 0
+    ∷ says (record { start = 25; end = 30; wrong = Some NotNumber }) own 0
+    ∷ says (record { start = 25; end = 34; wrong = Some Outside }) own 0
+    ∷ says (record { start = 25; end = 30; wrong = Some LeftOver }) own 0
+    ∷ says (record { start = 31; end = 32; wrong = Some LeftOver }) own 1
     ∷ []
-unfolding p1 lines own says said request begun ended aged roomed headed listed values after_values value number number_of
-    digits_within age_of is_age begins signed spelled next word_after every run is_digit is_solid is_blank
+unfolding p1 lines own says said request begun ended age_at aged roomed headed listed values after_values value number taken number_of
+    size_within age_of is_age begins signed spelled next word_after every run is_digit is_solid is_blank
 lines_are = refl

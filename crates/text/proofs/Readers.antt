@@ -11,25 +11,25 @@ use Rattle.text.specs.words.Words.{next}
 use Rattle.text.specs.words.Read.{Inside}
 use Rattle.text.specs.declared.words.Cursor.{Cursor}
 use Rattle.text.specs.numbers.Numbers.{number, headed, after_values, values, listed}
-use Rattle.text.specs.declared.numbers.Headed.{Headed}
+use Rattle.text.specs.declared.words.After.{After}
+use Rattle.request.specs.declared.Head.{Head}
+use Rattle.text.specs.declared.rooms.Rooms.{Rooms}
 use Rattle.text.specs.kinds.Kinds.{longest_line, overlong, begun, ended}
 use Rattle.text.proofs.kinds.Owed.{begun-overlong}
 use Rattle.request.specs.Head.{most_points}
 use Rattle.text.specs.rooms.Shown.{roomed}
-use Rattle.text.specs.declared.rooms.Roomed.{Roomed}
 use Rattle.text.specs.Line.{aged, request, said}
-use Rattle.text.specs.declared.Aged.{Aged}
 
-pub said-is : (line : List ℕ) (o : Cursor) (h : Headed) (a b : Cursor) (m : Roomed) (g : Aged) (e : Cursor) → o ≡ begun line
+pub said-is : (line : List ℕ) (o : Cursor) (h : After Head) (a b : Cursor) (m : After Rooms) (g : After ℕ) (e : Cursor) → o ≡ begun line
     → h ≡ headed line o → a ≡ (listed line h.cursor).cursor → b ≡ (listed line a).cursor → m ≡ roomed most_points line b
     → g ≡ aged line m.cursor → e ≡ ended line g.cursor
     → said line ≡ record {
       cursor = e;
-      head = h.head;
+      head = h.value;
       surface = (listed line h.cursor).numbers;
       path = (listed line a).numbers;
-      rooms = m.rooms;
-      age = g.age;
+      rooms = m.value;
+      age = g.value;
     }
 unfolding said request
 said-is line o h a b m g e n p q r s t u = rw (← n, ← p, ← q, ← r, ← s, ← t, ← u)

@@ -7,9 +7,9 @@ use Rattle.text.specs.numbers.Numbers.{most}
 use Rattle.text.specs.kinds.Kinds.{longest_line}
 use Rattle.text.specs.Line.{aged, said}
 use Rattle.text.specs.declared.Reading.{Reading}
-use Rattle.text.specs.declared.Aged.{Aged}
+use Rattle.text.specs.declared.words.After.{After}
 
-pub record ReadsAge (line : List ℕ) (c : Cursor) (r : Aged) : Type 0 where
+pub record ReadsAge (line : List ℕ) (c : Cursor) (r : After ℕ) : Type 0 where
   pub is : r ≡ aged line c
   pub inside : Inside line r.cursor
 

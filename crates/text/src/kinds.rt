@@ -1,92 +1,58 @@
 // A line of any kind: where its reading begins and ends, the word that names its kind, and what the reader of a kind hands back.
 ghost use Rattle.std.specs.Prelude.{◌≡◌};
+ghost use Rattle.text.specs.declared.words.Wrong.TheVariants.{LeftOver};
 ghost use Rattle.text.specs.words.Words.{because};
 ghost use Rattle.text.specs.words.Read.{Inside};
-ghost use Rattle.text.specs.kinds.Kinds.{overlong, is_word, is_kind};
+ghost use Rattle.text.specs.kinds.Kinds.{is_kind};
 ghost use Rattle.text.specs.kinds.Read.{Begins, ReadsEnd};
 
-use crate::words::{Cursor, LEFT_OVER, TOO_LONG, begins, next};
+use crate::words::{Cursor, Wrong, because, next};
 
-// Where the reading of a line stopped, and where its answer line ends in the lent buffer: 0 where the line cannot be read.
-#[derive(Clone, Copy)]
-pub struct Replied {
-    pub cursor: Cursor,
-    pub end: usize,
-}
-
-// Where a line is wrong that is too long.
-fn overlong() -> Cursor
-    ensures { result ≡ overlong }
-{
-    Cursor {
-        start: 4096,
-        end: 4096,
-        wrong: TOO_LONG,
-    }
-}
-
-// Where reading begins: a line that is too long is refused at once.
+// Where reading begins: a line that is too long is refused at once, at its byte 4096.
 pub fn begin(line: &[u8]) -> Cursor
     ensures { Begins line.now result }
 {
-    if 4096 < line.len() {
-        return overlong();
-    }
-    Cursor {
-        start: 0,
-        end: 0,
-        wrong: 0,
-    }
-}
-
-// A word that is wrong for this reason.
-fn because(word: Cursor, reason: u8) -> Cursor
-    ensures { result ≡ because word reason }
-{
-    Cursor {
-        start: word.start,
-        end: word.end,
-        wrong: reason,
+    if line.len() > 4096 {
+        Cursor {
+            start: 4096,
+            end: 4096,
+            wrong: Some(Wrong::TooLong),
+        }
+    } else {
+        Cursor {
+            start: 0,
+            end: 0,
+            wrong: None,
+        }
     }
 }
 
 // A word that is left over.
 pub fn left_over(word: Cursor) -> Cursor
-    ensures { result ≡ record { start = word.start; end = word.end; wrong = 4 } }
+    ensures { result ≡ because word LeftOver }
 {
-    because(word, LEFT_OVER)
+    because(word, Wrong::LeftOver)
 }
 
 // The end: no word is left.
+// kept: no plainer: what is read and what is refused (`Reading`, `After`, a refusal) hold a cursor without its line
 pub fn read_end(line: &[u8], from: Cursor) -> Cursor
     requires { Inside line.now from }
     ensures { ReadsEnd line.now from result }
 {
     let word = next(line, from);
-    if word.wrong != 0 {
-        return from;
+    if word.wrong.is_some() {
+        from
+    } else {
+        left_over(word)
     }
-    left_over(word)
-}
-
-fn is_word(word: &[u8], name: &[u8]) -> bool
-    ensures { result ≡ is_word word.now name.now }
-{
-    if word.len() != name.len() {
-        return false;
-    }
-    begins(word, name)
 }
 
 // Whether the word at a cursor is a name.
+#[tactic(auto, using(crate::proofs::words::Marks::same_word), unfolding(crate::specs::kinds::Kinds::is_kind))]
 pub fn is_kind(line: &[u8], word: Cursor, name: &[u8]) -> bool
     requires { Inside line.now word }
     ensures { result ≡ is_kind line.now word name.now }
 {
-    if word.wrong != 0 {
-        return false;
-    }
-    let start = word.start;
-    let end = word.end;
-    is_word(&line[start..end], name)
+    word.wrong.is_none() && &line[word.start..word.end] == name
 }

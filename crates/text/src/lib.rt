@@ -15,7 +15,7 @@ ghost use Rattle.text.specs.Read.{ReadsAge, ReadsLine};
 use crate::kinds::{begin, read_end};
 use crate::numbers::{read_head, read_list};
 use crate::rooms::{Rooms, read_rooms};
-use crate::words::{Cursor, age_of, next};
+use crate::words::{After, Cursor, age_of, because, next};
 use request::Head;
 
 // What a line says besides its two lists, of which the counts are here: a request, unless the cursor is refused.
@@ -29,34 +29,27 @@ pub struct Reading {
     pub age: u16,
 }
 
-#[derive(Clone, Copy)]
-pub struct Aged {
-    pub cursor: Cursor,
-    pub age: u16,
-}
-
 // The age: 0 where no word is left, else the number of a word that begins with `age=`.
-fn read_age(line: &[u8], from: Cursor) -> Aged
+fn read_age(line: &[u8], from: Cursor) -> After<u16>
     requires { Inside line.now from }
     ensures { ReadsAge line.now from result }
 {
     let word = next(line, from);
-    if word.wrong != 0 {
-        return Aged {
+    if word.wrong.is_some() {
+        return After {
             cursor: from,
-            age: 0,
+            value: 0,
         };
     }
-    let start = word.start;
-    let end = word.end;
-    let found = age_of(&line[start..end]);
-    Aged {
-        cursor: Cursor {
-            start,
-            end,
-            wrong: found.wrong,
+    match age_of(&line[word.start..word.end]) {
+        Ok(age) => After {
+            cursor: word,
+            value: age as u16,
         },
-        age: found.size as u16,
+        Err(wrong) => After {
+            cursor: because(word, wrong),
+            value: 0,
+        },
     }
 }
 
@@ -69,15 +62,12 @@ pub fn read_line(line: &[u8], surface: &mut [i32; 64], path: &mut [i32; 64]) -> 
     let numbers = read_list(line, values.cursor, path);
     let lent = read_rooms(line, numbers.cursor, request::MOST_POINTS);
     let aged = read_age(line, lent.cursor);
-    let cursor = read_end(line, aged.cursor);
-    let head = headed.head;
-    let rooms = lent.rooms;
     Reading {
-        cursor,
-        head,
-        surface: values.count,
-        path: numbers.count,
-        rooms,
-        age: aged.age,
+        cursor: read_end(line, aged.cursor),
+        head: headed.value,
+        surface: values.value,
+        path: numbers.value,
+        rooms: lent.value,
+        age: aged.value,
     }
 }

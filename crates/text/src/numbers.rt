@@ -1,81 +1,52 @@
 // The numbers of a line, read from left to right: one of them, a list after its count, the head of a request. Each reader is
 // handed a cursor and hands one on, and of a cursor that is refused it reads nothing.
-ghost use Rattle.std.specs.Prelude.{◌≡◌, cond, ◌≤◌, ◌<◌, set};
+ghost use Rattle.std.specs.Prelude.{◌≡◌, cond, ◌≤◌, ◌<◌};
 ghost use Rattle.text.specs.words.Words.{signed};
 ghost use Rattle.text.specs.words.Read.{cap, Inside};
 ghost use Rattle.text.specs.numbers.Numbers.{most, ReadsNumber, ReadsValues, ReadsList, ReadsHead};
 
-use crate::words::{Cursor, next, number_of};
+use crate::words::{After, Cursor, Whole, because, next, number_of};
 use request::Head;
 
-// A number of 32 bits.
-#[derive(Clone, Copy)]
-pub struct Value(pub i32);
-
-// A number by its sign and its size, and the cursor after it.
-#[derive(Clone, Copy)]
-pub struct Got {
-    pub cursor: Cursor,
-    pub minus: bool,
-    pub size: u64,
-}
-
-#[derive(Clone, Copy)]
-pub struct Listed {
-    pub cursor: Cursor,
-    pub count: usize,
-}
-
-#[derive(Clone, Copy)]
-pub struct Headed {
-    pub cursor: Cursor,
-    pub head: Head,
-}
-
 // The next word as a number from -below to above; 0 where it is refused.
-pub fn number(line: &[u8], from: Cursor, below: u64, above: u64) -> Got
+pub fn number(line: &[u8], from: Cursor, below: u64, above: u64) -> After<Whole>
     requires { (Inside line.now from) × (below < cap) × (above < cap) }
     ensures { ReadsNumber line.now from below above result }
 {
     let word = next(line, from);
-    if word.wrong != 0 {
-        return Got {
+    let nothing = Whole {
+        minus: false,
+        size: 0,
+    };
+    if word.wrong.is_some() {
+        return After {
             cursor: word,
-            minus: false,
-            size: 0,
+            value: nothing,
         };
     }
-    let start = word.start;
-    let end = word.end;
-    let found = number_of(&line[start..end], below, above);
-    Got {
-        cursor: Cursor {
-            start,
-            end,
-            wrong: found.wrong,
+    match number_of(&line[word.start..word.end], below, above) {
+        Ok(value) => After {
+            cursor: word,
+            value,
         },
-        minus: found.minus,
-        size: found.size,
+        Err(wrong) => After {
+            cursor: because(word, wrong),
+            value: nothing,
+        },
     }
 }
 
-// The number of a sign and a size.
-fn value_of(minus: bool, size: u64) -> Value
-    requires { size ≤ cond minus 2147483648 2147483647 }
-    ensures { result.0 ≡ signed minus size }
+// The value of 32 bits that a number is.
+// kept: no conversion of the library's takes a sign and a size
+fn value_of(n: Whole) -> i32
+    requires { n.size ≤ cond n.minus 2147483648 2147483647 }
+    ensures { result ≡ signed n.minus n.size }
 {
-    if minus {
-        return Value((0 - size as i64) as i32);
+    if n.minus {
+        -(n.size as i64) as i32
+    } else {
+        n.size as i32
     }
-    Value(size as i32)
-}
-
-fn put(out: &mut [i32; 64], k: usize, value: Value)
-    requires { k < most }
-    ensures { out.new ≡ set out.old k value.0 }
-{
-    let x = value.0;
-    out[k] = x;
 }
 
 // So many values, to the front of out.
@@ -84,32 +55,29 @@ fn read_values(line: &[u8], from: Cursor, count: usize, out: &mut [i32; 64]) -> 
     ensures { ReadsValues line.now from count out.old out.new result }
 {
     let mut cursor = from;
-    let mut k = 0;
-    while k < count {
+    for k in 0..count {
         let read = number(line, cursor, 2147483648, 2147483647);
-        put(out, k, value_of(read.minus, read.size));
-        let next = read.cursor;
-        cursor = next;
-        k += 1;
+        out[k] = value_of(read.value);
+        cursor = read.cursor;
     }
     cursor
 }
 
 // A count and as many values, to the front of out.
-pub fn read_list(line: &[u8], from: Cursor, out: &mut [i32; 64]) -> Listed
+pub fn read_list(line: &[u8], from: Cursor, out: &mut [i32; 64]) -> After<usize>
     requires { Inside line.now from }
     ensures { ReadsList line.now from out.old out.new result }
 {
     let counted = number(line, from, 0, 64);
-    let count = counted.size as usize;
-    Listed {
+    let count = counted.value.size as usize;
+    After {
         cursor: read_values(line, counted.cursor, count, out),
-        count,
+        value: count,
     }
 }
 
 // The form, the two degrees and N.
-pub fn read_head(line: &[u8], from: Cursor) -> Headed
+pub fn read_head(line: &[u8], from: Cursor) -> After<Head>
     requires { Inside line.now from }
     ensures { ReadsHead line.now from result }
 {
@@ -117,14 +85,13 @@ pub fn read_head(line: &[u8], from: Cursor) -> Headed
     let first = number(line, form.cursor, 0, 4294967295);
     let second = number(line, first.cursor, 0, 4294967295);
     let N = number(line, second.cursor, 0, 4294967295);
-    let cursor = N.cursor;
-    Headed {
-        cursor,
-        head: Head {
-            form: form.size as u32,
-            first: first.size as u32,
-            second: second.size as u32,
-            N: N.size as u32,
+    After {
+        cursor: N.cursor,
+        value: Head {
+            form: form.value.size as u32,
+            first: first.value.size as u32,
+            second: second.value.size as u32,
+            N: N.value.size as u32,
         },
     }
 }

@@ -1,73 +1,71 @@
 // The words of a line: a cursor that goes from word to word, and the whole number that a word spells. A cursor that is refused
 // stays where the wrong word stands, so that readers go on straight to the end of a line.
-ghost use Rattle.std.specs.Prelude.{◌≡◌, false, ◌+◌, ◌-◌, ◌*◌, ◌≤◌, ◌<◌, min, length};
-ghost use Rattle.text.specs.words.Words.{is_blank, is_digit, begins, is_age};
-ghost use Rattle.text.specs.words.Read.{is_of, Skips, Inside, Finds, cap, ReadsDigits, ReadsWord, ReadsAge};
+ghost use Rattle.std.specs.Prelude.{◌≡◌, Bool, false, ℕ, ◌+◌, ◌-◌, ◌*◌, ◌≤◌, ◌<◌, min, length};
+ghost use Rattle.text.specs.words.Words.{because, is_blank, begins, is_age};
+ghost use Rattle.text.specs.words.Read.{Skips, Inside, Finds, cap, ReadsDigits, ReadsWord, ReadsAge};
 
-// The word that was read last stands from start to before end, and reading goes on at end; or it is the word that is wrong,
-// for the reason `wrong`, and nothing more is read.
+// Why a line is unreadable: a word that is not a whole number, a number out of its bounds, too few words, a word left
+// over, a line too long.
+#[derive(Clone, Copy)]
+pub enum Wrong {
+    NotNumber,
+    Outside,
+    TooFew,
+    LeftOver,
+    TooLong,
+}
+
+// The word that was read last stands from start to before end, and reading goes on at end; or something is wrong with
+// the word, and nothing more is read.
 #[derive(Clone, Copy)]
 pub struct Cursor {
     pub start: usize,
     pub end: usize,
-    pub wrong: u8,
+    pub wrong: Option<Wrong>,
 }
 
-// A number by its sign and its size; or what is wrong, where that is not 0, and then the number is 0.
+// What was read, and the cursor after it.
 #[derive(Clone, Copy)]
-pub struct Found {
-    pub wrong: u8,
+pub struct After<T> {
+    pub cursor: Cursor,
+    pub value: T,
+}
+
+// A whole number by its sign and its size.
+#[derive(Clone, Copy)]
+pub struct Whole {
+    // kept: a size is held to the bound of its own sign, and -0 keeps its sign
     pub minus: bool,
     pub size: u64,
 }
 
-// Why a line is unreadable: a word that is not a whole number, a number out of its bounds, too few words, a word left
-// over, a line too long.
-pub const NOT_NUMBER: u8 = 1;
-
-pub const OUTSIDE: u8 = 2;
-
-pub const TOO_FEW: u8 = 3;
-
-pub const LEFT_OVER: u8 = 4;
-
-pub const TOO_LONG: u8 = 5;
+// The word that is wrong, and why.
+pub(crate) fn because(word: Cursor, wrong: Wrong) -> Cursor
+    ensures { result ≡ because word wrong }
+{
+    Cursor {
+        wrong: Some(wrong),
+        ..word
+    }
+}
 
 // A space, a tab or a carriage return.
+#[tactic(auto, unfolding(crate::specs::words::Words::is_blank))]
 pub fn is_blank(b: u8) -> bool
     ensures { result ≡ is_blank b }
 {
-    if b == 32 {
-        return true;
-    }
-    if b == 9 {
-        return true;
-    }
-    b == 13
+    matches!(b, b' ' | b'\t' | b'\r')
 }
 
-fn is_digit(b: u8) -> bool
-    ensures { result ≡ is_digit b }
+// From `at` on past all bytes that pass the test.
+pub fn skip<F: Fn(u8) -> bool>(line: &[u8], at: usize, passes: F) -> usize
+    requires within { at ≤ length line.now }
+    requires test { F.IsAlwaysCallable passes }
+    ensures inside { (at ≤ result) × (result ≤ length line.now) }
+    ensures passed { (p : ℕ → Bool) → ((b : ℕ) (r : Bool) → F.post passes b r → r ≡ p b) → Skips p line.now at result }
 {
-    if b < 48 {
-        return false;
-    }
-    b <= 57
-}
-
-// From `at` on past all blanks, or past all bytes that are none.
-pub fn skip(line: &[u8], at: usize, blank: bool) -> usize
-    requires { at ≤ length line.now }
-    ensures { Skips (is_of blank) line.now at result }
-{
-    let mut i = at;
-    while i < line.len() {
-        if is_blank(line[i]) != blank {
-            return i;
-        }
-        i += 1;
-    }
-    i
+    let rest = &line[at..];
+    at + rest.iter().position(|&b| !passes(b)).unwrap_or(rest.len())
 }
 
 // The next word. Too few words where none is left; from a refused cursor nothing is read.
@@ -75,113 +73,64 @@ pub fn next(line: &[u8], from: Cursor) -> Cursor
     requires { Inside line.now from }
     ensures { Finds line.now from result }
 {
-    if from.wrong != 0 {
+    if from.wrong.is_some() {
         return from;
     }
-    let start = skip(line, from.end, true);
-    let end = skip(line, start, false);
-    if start == end {
-        return Cursor {
-            start,
-            end,
-            wrong: TOO_FEW,
-        };
-    }
-    Cursor {
-        start,
-        end,
-        wrong: 0,
-    }
+    let start = skip(line, from.end, is_blank);
+    let end = skip(line, start, |b| !is_blank(b));
+    let wrong = if start == end {
+        Some(Wrong::TooFew)
+    } else {
+        None
+    };
+    Cursor { start, end, wrong }
 }
 
-// What a digit counts, and 0 for a byte below `0`.
-fn digit(b: u8) -> u64
-    ensures { result ≡ b - 48 }
-{
-    if b < 48 {
-        return 0;
-    }
-    (b - 48) as u64
-}
-
-// One digit more, up to the cap.
-fn more(n: u64, b: u8) -> u64
-    requires { n ≤ cap }
-    ensures { result ≡ min (n * 10 + (b - 48)) cap }
-{
-    let next = n * 10 + digit(b);
-    if next < 4294967296 {
-        return next;
-    }
-    4294967296
-}
-
-fn refused(reason: u8) -> Found
-    ensures { result ≡ record { wrong = reason; minus = false; size = 0 } }
-{
-    Found {
-        wrong: reason,
-        minus: false,
-        size: 0,
-    }
-}
-
-// The number of one or more digits, up to a bound.
-fn bounded(minus: bool, digits: &[u8], bound: u64) -> Found
+// The number of one or more digits, up to a bound. It is capped on the way, above every bound.
+fn bounded(digits: &[u8], bound: u64) -> Result<u64, Wrong>
     requires { bound < cap }
-    ensures { ReadsDigits minus digits.now bound result }
+    ensures { ReadsDigits digits.now bound result }
 {
-    if digits.len() == 0 {
-        return refused(NOT_NUMBER);
+    if digits.is_empty() {
+        return Err(Wrong::NotNumber);
     }
     let mut n = 0;
-    let mut i = 0;
-    while i < digits.len() {
-        if !is_digit(digits[i]) {
-            return refused(NOT_NUMBER);
+    for &b in digits {
+        if !b.is_ascii_digit() {
+            return Err(Wrong::NotNumber);
         }
-        n = more(n, digits[i]);
-        i += 1;
+        n = (n * 10 + u64::from(b - b'0')).min(4294967296);
     }
     if bound < n {
-        return refused(OUTSIDE);
+        return Err(Wrong::Outside);
     }
-    Found {
-        wrong: 0,
-        minus,
-        size: n,
-    }
+    Ok(n)
 }
 
 // The whole number of a word, from -below to above.
-pub fn number_of(word: &[u8], below: u64, above: u64) -> Found
+pub fn number_of(word: &[u8], below: u64, above: u64) -> Result<Whole, Wrong>
     requires { (0 < length word.now) × (below < cap) × (above < cap) }
     ensures { ReadsWord word.now below above result }
 {
-    if word[0] == b'-' {
-        return bounded(true, &word[1..], below);
+    if let Some(digits) = word.strip_prefix(b"-") {
+        let size = bounded(digits, below)?;
+        return Ok(Whole { minus: true, size });
     }
-    bounded(false, word, above)
+    let size = bounded(word, above)?;
+    Ok(Whole { minus: false, size })
 }
 
 // Whether a word begins with a mark.
+// kept: docs/PROMISES.md promises it by name
+#[tactic(auto, using(crate::proofs::words::Marks::starts_mark))]
 pub fn begins(word: &[u8], mark: &[u8]) -> bool
     ensures { result ≡ begins mark.now word.now }
 {
-    if word.len() < mark.len() {
-        return false;
-    }
-    let mut i = 0;
-    while i < mark.len() {
-        if word[i] != mark[i] {
-            return false;
-        }
-        i += 1;
-    }
-    true
+    word.starts_with(mark)
 }
 
 // Whether a word begins with `age=`.
+#[tactic(auto, unfolding(crate::specs::words::Words::is_age))]
 pub fn is_age(word: &[u8]) -> bool
     ensures { result ≡ is_age word.now }
 {
@@ -189,11 +138,11 @@ pub fn is_age(word: &[u8]) -> bool
 }
 
 // The number behind `age=`; a word that does not begin so is left over.
-pub fn age_of(word: &[u8]) -> Found
+pub fn age_of(word: &[u8]) -> Result<u64, Wrong>
     ensures { ReadsAge word.now result }
 {
-    if !is_age(word) {
-        return refused(LEFT_OVER);
+    match word.strip_prefix(b"age=") {
+        Some(digits) => bounded(digits, 65535),
+        None => Err(Wrong::LeftOver),
     }
-    bounded(false, &word[4..], 65535)
 }

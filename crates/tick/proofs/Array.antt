@@ -4,14 +4,25 @@ use mathlib.Core.Path.{◌≡◌, sym, ap, ap₂, ◌∙◌}
 use mathlib.Core.List.{List, [], ◌∷◌, map}
 use Prim.Native.Nat.{ℕ, zero, suc, ◌+◌, ◌-◌, ◌≤◌, ◌<◌}
 use native.Mathlib.Omega.{arith}
-use lib.IntN.{ℤ, pos, nat_abs}
+use lib.IntN.{ℤ, pos, negsuc, nat_abs}
 use lib.ListN.{length, get_or, set, take, length-set, length-map, replicate}
 use lib.Seq.{length-take-le, get_or-take, ext_get_or}
+use mir.Syntax.{w64}
+use mir.Val.{SFits, to_z, of_z}
+use mir.Facts.{to_z-of_z}
 use borrow.Author.Count.{below_none}
 use Rattle.whole.proofs.Fill.{fill_more, fill-rest, zeros}
 use Rattle.tick.specs.Reading.{most_points, carried, between, lower, after}
 use Rattle.tick.specs.Carried.{carried_most, Carried}
 use Rattle.tick.proofs.Steps.{lower-length, lower-at, after-zero, after-suc, carried-at}
+
+-- a carried value is what its bits are read as
+small : (z : ℤ) → nat_abs z ≤ carried_most → SFits w64 z
+small (pos n) m = record { sfits = omega arith }
+small (negsuc n) m = record { sfits = omega arith }
+
+pub same : (z : ℤ) → nat_abs z ≤ carried_most → to_z w64 (of_z w64 z) ≡ z
+same z m = to_z-of_z (small z m)
 
 -- one value more leaves every value carried
 stored : (l : List ℤ) (i : ℕ) (x : ℤ) → ((j : ℕ) → nat_abs (get_or l j (pos 0)) ≤ carried_most) → nat_abs x ≤ carried_most
@@ -92,13 +103,12 @@ module _ (k : ℕ) (before : List ℤ) where
       ∙ ap₂ (between k) (get_or-take (count + 1) before j (pos 0) (omega arith)) (get_or-take (count + 1) before (suc j) (pos 0) (omega arith))))
 
 -- ---- what is left to read, from one step to the next, and at the end
-pub after-step : (k left : ℕ) (before now : List ℤ) → 0 < left → take left now ≡ lower k (take (left + 1) before)
-    → after (left - 1) k (take (left - 1 + 1) now) ≡ after left k (take (left + 1) before)
+pub after-step : (k count : ℕ) (before now : List ℤ) → 0 < count → take count now ≡ lower k (take (count + 1) before)
+    → after (count - 1) k (take count now) ≡ after count k (take (count + 1) before)
 after-step k zero before now h e = absurd (omega arith)
 after-step k (suc n) before now h e =
     let one : suc n - 1 ≡ n = omega arith in
-    let two : n + 1 ≡ suc n = omega arith in
-    rw (one, two) (ap (after n k) e ∙ sym (after-suc n k (take (suc n + 1) before)))
+    rw one (ap (after n k) e ∙ sym (after-suc n k (take (suc n + 1) before)))
 
-pub after_last : (k left : ℕ) (now : List ℤ) → left ≡ 0 → after left k (take (left + 1) now) ≡ get_or now 0 (pos 0)
-after_last k left now e = rw e (after-zero k (take 1 now) ∙ get_or-take 1 now 0 (pos 0) (omega arith))
+pub after_last : (k : ℕ) (now : List ℤ) → after 0 k (take 1 now) ≡ get_or now 0 (pos 0)
+after_last k now = after-zero k (take 1 now) ∙ get_or-take 1 now 0 (pos 0) (omega arith)

@@ -10,6 +10,7 @@ ghost use Rattle.tick.specs.Told.{not_net, judged, told};
 ghost use Rattle.tick.specs.Carried.{carried_most, Carried};
 
 use request::Answer;
+use request::refusals::Refusal;
 use whole::Num;
 
 // A moment of a ride: 1024 is its end.
@@ -18,6 +19,7 @@ pub struct Moment(pub u32);
 
 // number: 0 for accepted, else the refusal's. place: the least index of a point beyond its bounds (VALUE), else 0. reading: in
 // 1/65,536 of a unit, 0 for a refusal.
+// kept: the C interface has the three numbers, and `told` in specs/Told.antt speaks of each
 #[derive(Clone, Copy)]
 pub struct Tick {
     pub number: u32,
@@ -25,23 +27,8 @@ pub struct Tick {
     pub reading: i64,
 }
 
-// Value i.
-fn at(values: &[i64; 25], i: usize) -> Num
-    requires { i < 25 }
-    ensures { result.0 ≡ get_or values.now i (pos 0) }
-{
-    Num(values[i])
-}
-
-fn put(values: &mut [i64; 25], i: usize, x: Num)
-    requires { i < 25 }
-    ensures { values.new ≡ set values.old i x.0 }
-{
-    let v = x.0;
-    values[i] = v;
-}
-
 // Point i as it is carried.
+// kept: `value_place points ≡ length points` in three private contracts: a struct for it would only wrap the slice
 fn carried_at(points: &[i32], i: usize) -> Num
     requires { value_place points.now ≡ length points.now }
     ensures { (result.0 ≡ carried (get_or points.now i (pos 0))) × (nat_abs result.0 ≤ carried_most) }
@@ -56,19 +43,9 @@ fn load(points: &[i32], values: &mut [i64; 25])
     requires { (length points.now ≤ 25) × (value_place points.now ≡ length points.now) × Carried values.old }
     ensures { (take (length points.now) values.new ≡ map carried points.now) × Carried values.new }
 {
-    let mut i = 0;
-    while i < points.len() {
-        let value = carried_at(points, i);
-        put(values, i, value);
-        i += 1;
+    for i in 0..points.len() {
+        values[i] = carried_at(points, i).0;
     }
-}
-
-// n/1024, cut off toward zero.
-fn cut(n: Num) -> Num
-    ensures { result.0 ≡ on_side_of n.0 (nat_abs n.0 / 1024) }
-{
-    Num(n.0 / 1024)
 }
 
 // Half of 1024, on n's side of zero.
@@ -82,15 +59,16 @@ fn half(n: Num) -> Num
     }
 }
 
-// n/1024, rounded. Half is added on n's side and the rest cut off, so that no branch waits for what is left.
+// n/1024, rounded. Half is added on n's side and the rest cut off toward zero, so that no branch waits for what is left.
 fn rounded(n: Num) -> Num
     requires { nat_abs n.0 ≤ 1024 * carried_most }
     ensures { result.0 ≡ nearest n.0 1024 }
 {
-    cut(whole::sum(n, half(n)))
+    Num(whole::sum(n, half(n)).0 / 1024)
 }
 
 // Between two neighbouring values, at k/1024.
+// kept: `k ≤ 1024` in three private contracts: `Moment` takes any number, and a second type for one call would be longer
 fn between(k: u64, a: Num, b: Num) -> Num
     requires { (k ≤ 1024) × (nat_abs a.0 ≤ carried_most) × (nat_abs b.0 ≤ carried_most) }
     ensures { (result.0 ≡ between k a.0 b.0) × (nat_abs result.0 ≤ carried_most) }
@@ -105,11 +83,8 @@ fn lower(values: &mut [i64; 25], count: usize, k: u64)
     requires { (count < 25) × (k ≤ 1024) × Carried values.old }
     ensures { (take count values.new ≡ lower k (take (count + 1) values.old)) × Carried values.new }
 {
-    let mut i = 0;
-    while i < count {
-        let value = between(k, at(values, i), at(values, i + 1));
-        put(values, i, value);
-        i += 1;
+    for i in 0..count {
+        values[i] = between(k, Num(values[i]), Num(values[i + 1])).0;
     }
 }
 
@@ -120,44 +95,36 @@ fn curve(points: &[i32], k: u64) -> Num
 {
     let mut values = [0i64; 25];
     load(points, &mut values);
-    let mut left = points.len() - 1;
-    while 0 < left {
+    for left in (1..points.len()).rev() {
         lower(&mut values, left, k);
-        left -= 1;
     }
-    at(&values, 0)
+    Num(values[0])
 }
 
 // 3 SURFACE
+#[tactic(auto, unfolding(crate::specs::Told::not_net))]
 fn not_net(points: &[i32]) -> bool
     ensures { result ≡ not_net points.now }
 {
-    if points.len() < 1 {
-        return true;
-    }
-    25 < points.len()
+    !(1..=25).contains(&points.len())
 }
 
 // The three refusals in their order, or the acceptance.
+#[tactic(auto, unfolding(crate::specs::Told::judged, crate::specs::Told::refusals, crate::specs::Told::not_point, crate::specs::Told::not_moment, request::specs::Cascade::first, request::specs::Cascade::decided, request::specs::Cascade::accepting))]
 fn judge(points: &[i32], k: Moment) -> Answer
     ensures { result ≡ judged points.now k.0 }
 {
     if not_net(points) {
-        return request::refusal(3, 0);
+        return Refusal::Surface.at(0);
     }
-    let moment = k.0;
     let value = judge::value_place(points);
     if value < points.len() {
-        return request::refusal(6, value);
+        return Refusal::Value.at(value);
     }
-    if 1024 < moment {
-        return request::refusal(11, 0);
+    if k.0 > 1024 {
+        return Refusal::Moment.at(0);
     }
-    Answer {
-        number: 0,
-        place: 0,
-        count: 1,
-    }
+    Answer::accepted(1)
 }
 
 // Reads the curve of a net of points at a moment.
@@ -165,17 +132,16 @@ pub fn read(points: &[i32], k: Moment) -> Tick
     ensures { result ≡ told points.now k.0 }
 {
     let answer = judge(points, k);
-    if answer.number != 0 {
+    if answer.is_refused() {
         return Tick {
             number: answer.number,
             place: answer.place,
             reading: 0,
         };
     }
-    let value = curve(points, k.0 as u64);
     Tick {
         number: 0,
         place: 0,
-        reading: value.0,
+        reading: curve(points, u64::from(k.0)).0,
     }
 }

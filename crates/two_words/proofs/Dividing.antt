@@ -1,10 +1,10 @@
 -- Rounding by one division: the powers of 1024 are shifted away first. Assumes nothing.
-use Rattle.std.proofs.Common.{◌≡◌, ℕ, zero, suc, ◌+◌, ◌-◌, ◌*◌, ◌/◌, ◌%◌, ◌^◌, ◌<◌, ◌≤◌, true, false, not, ℤ, pos, negsuc, neg_ℤ, nat_abs, sym, refl, ap, ◌∙◌, true≢false, mul-le-mul_right, mul_assoc, mul_comm, div-lt_iff_lt-mul, mul-add, arith}
+use Rattle.std.proofs.Common.{◌≡◌, ℕ, zero, suc, ◌+◌, ◌*◌, ◌/◌, ◌^◌, ◌<◌, ◌≤◌, true, false, not, ℤ, pos, negsuc, neg_ℤ, nat_abs, sym, refl, ap, ◌∙◌, true≢false, mul-le-mul_right, mul_assoc, mul_comm, div-lt_iff_lt-mul, mul-add, arith}
 use native.Mathlib.Nat.{mul-div-mul_left, add-mul-div_right}
 use native.Mathlib.Nat.{div-div-eq-div-mul, pow-le-pow_right}
 use lib.Signed.{mag, non_neg}
 use Rattle.whole.specs.Round.{half_up, on_side_of, nearest}
-use Rattle.two_words.specs.Words.{two_words, Doublable, Roundable}
+use Rattle.two_words.specs.Words.{two_words, Roundable}
 use Rattle.two_words.proofs.Only.{below-zero}
 
 plain : (x D : ℕ) → 0 < D → (2 * x + D) / (2 * D) ≡ half_up x D
@@ -34,26 +34,6 @@ pub side-below : (high : ℤ) (low y : ℕ) → low < 2 ^ 64 → not (non_neg hi
 unfolding on_side_of
 side-below (pos h) low y l e = absurd (true≢false (sym e))
 side-below (negsuc h) low y l e = ap (λ n. on_side_of n y) (below-zero h low l)
-
-pub size_above : (high : ℤ) (low : ℕ) → not (non_neg high) ≡ false → 2 ^ 64 * nat_abs high + low ≡ nat_abs (two_words high low)
-unfolding two_words
-size_above (pos h) low e = refl
-size_above (negsuc h) low e = absurd (true≢false e)
-
-pub size-some : (high : ℤ) → not (non_neg high) ≡ true → 0 < nat_abs high
-size-some (pos h) e = absurd (true≢false (sym e))
-size-some (negsuc h) e = omega arith
-
--- x is −low in a word, and b is what is borrowed for it
-pub size_below : (high : ℤ) (low x b : ℕ) → not (non_neg high) ≡ true → low < 2 ^ 64 → x < 2 ^ 64 → (x + low) % 2 ^ 64 ≡ 0 → b ≤ 1 → b ≤ low → low ≤ b * 2 ^ 64
-    → 2 ^ 64 * (nat_abs high - b) + x ≡ nat_abs (two_words high low)
-size_below (pos h) low x b e l m z u v w = absurd (true≢false (sym e))
-size_below (negsuc h) low x b e l m z u v w = rw (below-zero h low l) (both b u v w)
-  where
-    both : (b : ℕ) → b ≤ 1 → b ≤ low → low ≤ b * 2 ^ 64 → 2 ^ 64 * (suc h - b) + x ≡ suc (2 ^ 64 * suc h - suc low)
-    both zero u v w = omega arith
-    both (suc zero) u v w = let s : x + low ≡ 2 ^ 64 = omega arith in omega arith
-    both (suc (suc b)) u v w = absurd (omega arith)
 
 pub on-above : (n : ℤ) (y : ℕ) → not (non_neg n) ≡ false → on_side_of n y ≡ pos y
 unfolding on_side_of
@@ -90,40 +70,26 @@ reduced n d P h k =
     let x = 2 * nat_abs n / P in
     ap (λ z. on_side_of n (nat_abs z)) (nearest-size x (2 * d)) ∙ ap (on_side_of n) (half-doubled x d h ∙ shifted (nat_abs n) d P h k)
 
--- ---- twice a size over 1024^r: no argument, and by one shift
-abbrev twice : ℕ → ℕ → ℕ → ℕ
-twice high low r = 2 * (2 ^ 64 * high + low) / 1024 ^ r
-
-pub double-none : (high low r : ℕ) → Doublable high low r → r ≡ 0 → (2 * low < 2 ^ 64) × (2 * low ≡ twice high low r)
-double-none high low r h e = let m : 2 ^ 64 * high + low < 2 ^ 34 = rw e at h.most in (omega arith, rw e (omega arith))
-
-pub double-some : (high low r : ℕ) → Doublable high low r → 0 < r
-    → (high * 33554432 < 2 ^ 36) × (high * 33554432 + low / 2 ^ (10 * r - 1) ≡ twice high low r)
-double-some high low zero h p = absurd (omega arith)
-double-some high low (suc zero) h p = let m : 2 ^ 64 * high + low < 2 ^ 44 = h.most in (omega arith, omega arith)
-double-some high low (suc (suc zero)) h p = let m : 2 ^ 64 * high + low < 2 ^ 54 = h.most in (omega arith, omega arith)
-double-some high low (suc (suc (suc zero))) h p = let m : 2 ^ 64 * high + low < 2 ^ 64 = h.most in (omega arith, omega arith)
-double-some high low (suc (suc (suc (suc zero)))) h p =
-    let m : 2 ^ 64 * high + low < 2 ^ 74 = h.most in
-    let l = h.below in
-    (omega arith, omega arith)
-double-some high low (suc (suc (suc (suc (suc r))))) h p = absurd (let f = h.few in omega arith)
-
--- ---- no step overflows
-shift_small : (low by : ℕ) → low < 2 ^ 64 → 0 < by → low / 2 ^ by < 2 ^ 63
-shift_small low by l h =
-    let p : 2 ≤ 2 ^ by = pow-le-pow_right {n = 2} (omega arith) {i = 1} {j = by} h in
-    let q : 0 < 2 ^ by = omega arith in
-    (div-lt_iff_lt-mul q).1 (omega (arith, mul-le-mul_right (2 ^ 63) p))
-
-pub sum_fits : (top low by : ℕ) → top < 2 ^ 36 → low < 2 ^ 64 → 0 < by → top + low / 2 ^ by < 2 ^ 64
-sum_fits top low by t l h = omega (arith, t, shift_small low by l h)
+-- ---- twice a size over 1024^r: one shift
+pub power : (r : ℕ) → r ≤ 4 → 2 ^ (10 * r) ≡ 1024 ^ r
+power zero h = refl
+power (suc zero) h = refl
+power (suc (suc zero)) h = refl
+power (suc (suc (suc zero))) h = refl
+power (suc (suc (suc (suc zero)))) h = refl
+power (suc (suc (suc (suc (suc r))))) h = absurd (omega arith)
 
 pub positive : (r : ℕ) → 0 < 1024 ^ r
 positive r = pow-le-pow_right {n = 1024} (omega arith) {i = 0} {j = r} (omega arith)
 
-pub doublable : (high low r d : ℕ) (n : ℤ) → low < 2 ^ 64 → Roundable n d r → 2 ^ 64 * high + low ≡ nat_abs n → Doublable high low r
-doublable high low r d n l h e = record { few = h.few; below = l; most = omega (arith, positive r, h.within, mul-le-mul_right (1024 ^ r) h.most) }
+pub most : (r : ℕ) → r ≤ 4 → 1024 ^ r ≤ 2 ^ 40
+most r h = pow-le-pow_right {n = 1024} (omega arith) {i = r} {j = 4} h
+
+pub small : (r d : ℕ) (n : ℤ) → Roundable n d r → nat_abs n < 2 ^ 34 * 1024 ^ r
+small r d n h = omega (arith, positive r, h.within, mul-le-mul_right (1024 ^ r) h.most)
+
+pub doubled-below : (r size : ℕ) → size < 2 ^ 34 * 1024 ^ r → 2 * size / 1024 ^ r < 2 ^ 35
+doubled-below r size h = (div-lt_iff_lt-mul (positive r)).1 (omega arith)
 
 pub doubled-small : (r d : ℕ) (n : ℤ) → Roundable n d r → 2 * nat_abs n / 1024 ^ r < 2 ^ 35
 doubled-small r d n h =

@@ -1,30 +1,29 @@
--- Two limbs as two words. Assumes nothing.
-use Rattle.std.proofs.Common.{◌≡◌, ℕ, ◌+◌, ◌*◌, ◌/◌, ◌%◌, ◌^◌, ℤ, pos, ◌+ℤ◌, neg_ℤ, sym, refl, ap, ◌∙◌, arith}
-use lib.IntN.{ -ℤ-+ℤ_cancel}
-use Rattle.whole.proofs.Ring.{◌⊕◌, ◌⊗◌, ring}
-use Rattle.limbs.specs.Limbs.{two_limbs}
-use Rattle.two_words.specs.Words.{two_words, IsWords}
-use Rattle.two_words.proofs.Only.{cancel}
+-- A number of 128 bits and its two words, as the machine writes them. Assumes nothing.
+use Rattle.std.proofs.Common.{◌≡◌, ℕ, ◌%◌, ◌^◌, ◌<◌, ℤ, pos, negsuc, refl, arith, of_z, to_z, w64, SFits}
+use Rattle.std.proofs.lemmas.Int.{to_z-of_z}
+use lib.Signed.{mag, shr_z}
+use mir.Syntax.{w128}
+use Rattle.two_words.specs.Words.{high_word, low_word}
 
--- A = 2^64, B = 2^32, K = 2^30, M = 2^62: what both limbs were moved up by is taken off again
-moved : (A B K M h x high low : ℤ) → A ⊗ K ≡ B ⊗ M → A ⊗ (h ⊕ K) ⊕ x ⊕ M ≡ B ⊗ (high ⊕ M) ⊕ (low ⊕ M) → A ⊗ h ⊕ x ≡ B ⊗ high ⊕ low
-moved A B K M h x high low c e = cancel _ _ (A ⊗ K ⊕ M) (before ∙ e ∙ after ∙ ap (λ z. B ⊗ high ⊕ low ⊕ (z ⊕ M)) (sym c))
-  where
-    before : A ⊗ h ⊕ x ⊕ (A ⊗ K ⊕ M) ≡ A ⊗ (h ⊕ K) ⊕ x ⊕ M
-    before = simp ring
+high-word-is : (n : ℤ) → shr_z n (2 ^ 64) ≡ high_word n
+unfolding high_word
+high-word-is (pos a) = refl
+high-word-is (negsuc a) = refl
 
-    after : B ⊗ (high ⊕ M) ⊕ (low ⊕ M) ≡ B ⊗ high ⊕ low ⊕ (B ⊗ M ⊕ M)
-    after = simp ring
+high-word-fits : (n : ℤ) → mag n < 2 ^ 127 → SFits w128 (high_word n) × SFits w64 (high_word n)
+unfolding high_word
+high-word-fits (pos a) h = (record { sfits = omega arith }, record { sfits = omega arith })
+high-word-fits (negsuc a) h = (record { sfits = omega arith }, record { sfits = omega arith })
 
-natural : (H L u : ℕ) → u + 2 ^ 30 ≡ H + L / 2 ^ 32 → 2 ^ 64 * (u / 2 ^ 32) + (u % 2 ^ 32 * 2 ^ 32 + L % 2 ^ 32) + 2 ^ 62 ≡ 2 ^ 32 * H + L
-natural H L u e = omega arith
+low-word-is : (n : ℤ) → mag n < 2 ^ 127 → of_z w128 n % 2 ^ 64 ≡ low_word n
+unfolding low_word
+low-word-is (pos a) h = refl
+low-word-is (negsuc a) h = omega arith
 
--- the limbs high and low, moved up to H and L; u is H with what L carries
-pub limbs-words : (high low h : ℤ) (H L u : ℕ) → pos H ≡ high +ℤ pos (2 ^ 62) → pos L ≡ low +ℤ pos (2 ^ 62) → u + 2 ^ 30 ≡ H + L / 2 ^ 32
-    → h ≡ pos (u / 2 ^ 32) +ℤ neg_ℤ (pos (2 ^ 30)) → IsWords (two_limbs high low) h (u % 2 ^ 32 * 2 ^ 32 + L % 2 ^ 32)
-unfolding two_words two_limbs ◌⊕◌ ◌⊗◌
-limbs-words high low h H L u a b c d = record {
-  worth = moved (pos (2 ^ 64)) (pos (2 ^ 32)) (pos (2 ^ 30)) (pos (2 ^ 62)) h (pos (u % 2 ^ 32 * 2 ^ 32 + L % 2 ^ 32)) high low refl
-      (rw (d, -ℤ-+ℤ_cancel (pos (u / 2 ^ 32)) (pos (2 ^ 30)), ← a, ← b) (ap pos (natural H L u c)));
-  below = omega arith;
-}
+pub high-written : (n : ℤ) → SFits w128 n → to_z w64 (of_z w64 (to_z w128 (of_z w128 (shr_z (to_z w128 (of_z w128 n)) (2 ^ 64))))) ≡ high_word n
+high-written n f =
+    let h = high-word-fits n f.sfits in
+    rw (to_z-of_z w128 n f, high-word-is, to_z-of_z w128 (high_word n) h.0) (to_z-of_z w64 (high_word n) h.1)
+
+pub low-written : (n : ℤ) (x : ℕ) → SFits w128 n → x ≡ of_z w128 (to_z w128 (of_z w128 n)) → x % 2 ^ 64 ≡ low_word n
+low-written n x f e = rw (e, to_z-of_z w128 n f) (low-word-is n f.sfits)

@@ -4,3 +4,4 @@ pub mod Only
 pub mod Numbers
 pub mod Joining
 pub mod Dividing
+pub mod Carrying

@@ -5,11 +5,14 @@
 ghost use Rattle.std.specs.Prelude.{◌≡◌, ◌+◌, ◌*◌, ◌/◌, ◌^◌, ◌<◌, ◌≤◌, length, pos, ◌+ℤ◌, slice_index_or, unsigned_abs};
 ghost use Rattle.whole.specs.Round.{on_side_of, nearest};
 ghost use Rattle.limbs.specs.Limbs.{two_limbs, worth};
-ghost use Rattle.two_words.specs.Words.{two_words, high_word, low_word, IsWords, Joinable, Roundable, Doublable};
+ghost use Rattle.two_words.specs.Words.{two_words, high_word, low_word, IsWords, Joinable, Roundable};
 
 use whole::Num;
 
-const BASE: u64 = 4294967296;
+// What a high limb and a high word are worth.
+const BASE: i128 = 1 << 32;
+
+const WORD: i128 = 1 << 64;
 
 // A whole number by two words, worth high·2^64 + low.
 #[derive(Clone, Copy)]
@@ -20,33 +23,21 @@ pub struct Words {
 
 // ---- from two limbs
 
-// Limb k.
-fn limb(sums: &[i64], k: usize) -> Num
-    requires { k < length sums.now }
-    ensures { result.0 ≡ slice_index_or sums.now k (pos 0) }
+// What the limbs of place s are worth.
+fn worth(sums: &[i64], s: usize) -> i128
+    requires { 2 * s + 1 < length sums.now }
+    ensures { result ≡ worth sums.now s }
 {
-    Num(sums[k])
+    sums[2 * s] as i128 * BASE + sums[2 * s + 1] as i128
 }
 
-// What n is above −2^62.
-fn lifted(n: Num) -> u64
-    requires { unsigned_abs n.0 < 2 ^ 62 }
-    ensures { pos result ≡ n.0 +ℤ pos (2 ^ 62) }
+// The words of a number: the high one is cut off downward.
+fn words_of(n: i128) -> Words
+    ensures { (result.high.0 ≡ high_word n) × (result.low ≡ low_word n) }
 {
-    (n.0 + 0x4000_0000_0000_0000) as u64
-}
-
-// Two limbs as words. Moved up by 2^62 each nothing is negative, so that every part is cut off downward.
-fn together(high: Num, low: Num) -> Words
-    requires { (unsigned_abs high.0 ≤ 2 ^ 56) × (unsigned_abs low.0 ≤ 2 ^ 56) }
-    ensures { IsWords (two_limbs high.0 low.0) result.high.0 result.low }
-{
-    let l = lifted(low);
-    let up = lifted(high) + l / BASE - 0x4000_0000;
-    let word = up % BASE * BASE + l % BASE;
     Words {
-        high: whole::sum(whole::plus(up / BASE), whole::minus(0x4000_0000)),
-        low: word,
+        high: Num((n >> 64) as i64),
+        low: (n.cast_unsigned() % (1 << 64)) as u64,
     }
 }
 
@@ -55,7 +46,7 @@ pub fn joined(sums: &[i64], s: usize) -> Words
     requires { Joinable sums.now s }
     ensures { (result.high.0 ≡ high_word (worth sums.now s)) × (result.low ≡ low_word (worth sums.now s)) }
 {
-    together(limb(sums, 2 * s), limb(sums, 2 * s + 1))
+    words_of(worth(sums, s))
 }
 
 // ---- the rounding
@@ -67,39 +58,30 @@ pub struct Size {
     pub low: u64,
 }
 
-// 1, or 0 where x is 0.
-fn some(x: u64) -> u64
-    ensures { (result ≤ 1) × (result ≤ x) × (x ≤ result * 2 ^ 64) }
+// What two words are worth.
+fn words_worth(n: Words) -> i128
+    ensures { (result ≡ two_words n.high.0 n.low) × (n.low < 2 ^ 64) }
 {
-    if x == 0 { 0 } else { 1 }
+    n.high.0 as i128 * WORD + n.low as i128
 }
 
-// The size of a whole number by two words: below zero one is borrowed from the high word unless the low one is 0.
+// The size of a whole number by two words.
 pub fn size_of(n: Words) -> Size
     ensures { (2 ^ 64 * result.high + result.low ≡ unsigned_abs (two_words n.high.0 n.low)) × (result.low < 2 ^ 64) × (n.low < 2 ^ 64) }
 {
-    let high = whole::size(n.high);
-    let low = n.low;
-    if whole::negative(n.high) {
-        return Size {
-            high: high - some(low),
-            low: std::num::wrapping_sub_u64(0, low),
-        };
+    let size = words_worth(n).unsigned_abs();
+    Size {
+        high: (size >> 64) as u64,
+        low: (size % (1 << 64)) as u64,
     }
-    Size { high, low }
 }
 
-// Twice a size over 1024^r, cut off: one shift for every r but 0, and no branch on r. Only four arguments make a high word
-// other than 0.
-fn doubled(a: Size, r: usize) -> u64
-    requires { Doublable a.high a.low r }
-    ensures { result ≡ 2 * (2 ^ 64 * a.high + a.low) / 1024 ^ r }
+// Twice a size over 1024^r, cut off.
+fn doubled(size: u128, r: usize) -> u64
+    requires { (r ≤ 4) × (size < 2 ^ 34 * 1024 ^ r) }
+    ensures { (result ≡ 2 * size / 1024 ^ r) × (result < 2 ^ 35) }
 {
-    if r == 0 {
-        return 2 * a.low;
-    }
-    let by = 10 * r - 1;
-    a.high * 33554432 + (a.low >> by)
+    ((2 * size) >> (10 * r)) as u64
 }
 
 // The number of size x on n's side of zero.
@@ -120,7 +102,7 @@ pub fn rounded(n: Words, d: u64, r: usize) -> Num
     requires { Roundable (two_words n.high.0 n.low) d r }
     ensures { result.0 ≡ nearest (two_words n.high.0 n.low) (d * 1024 ^ r) }
 {
-    let twice = whole::plus(doubled(size_of(n), r));
+    let twice = whole::plus(doubled(words_worth(n).unsigned_abs(), r));
     let point = whole::nearest(twice, 2 * d);
     on_side(n.high, whole::size(point))
 }

@@ -1,25 +1,19 @@
 -- A signed operation reads its operands from their bits and writes its result as bits. Where the operands and the result
--- fit, nothing is lost: laws for every operation f of two numbers, for the way from a number to its size and back, and for division.
+-- fit, nothing is lost: laws for division and for a step away from zero.
 -- Assumes nothing.
 use mathlib.Core.Path.{◌≡◌, refl, sym, ◌∙◌, ap, ap₂}
 use mathlib.Core.Bool.{true, false, not, true≢false}
-use Prim.Native.Nat.{ℕ, zero, suc, ◌+◌, ◌*◌, ◌-◌, ◌/◌, ◌%◌, ◌^◌, ◌≤◌, ◌<◌}
-use native.Mathlib.Nat.{zero-add, mul_comm, div-add-mod, div-le_self, mod-le}
-use native.Mathlib.Numerals.{add-one}
+use Prim.Native.Nat.{ℕ, zero, suc, ◌+◌, ◌*◌, ◌/◌, ◌%◌, ◌^◌, ◌≤◌, ◌<◌}
+use native.Mathlib.Nat.{mul_comm, div-add-mod, div-le_self, mod-le}
 use native.Mathlib.Omega.{arith}
-use lib.Dec.{T}
-use lib.IntN.{ℤ, pos, negsuc, neg_ℤ, nat_abs, ◌+ℤ◌, ◌-ℤ◌, ◌*ℤ◌, +ℤ_comm, +ℤ-neg_ℤ_cancel, -ℤ_one, neg_ℤ-+ℤ, pos-*ℤ-pos}
+use lib.IntN.{ℤ, pos, negsuc, neg_ℤ, nat_abs, ◌+ℤ◌, ◌-ℤ◌, ◌*ℤ◌, +ℤ-neg_ℤ_cancel, neg_ℤ-+ℤ, pos-*ℤ-pos}
 use lib.Signed.{mag, non_neg, lt_z, quot_z}
 use borrow.Author.Tests.{le-ltb}
 use mir.Syntax.{w64}
-use mir.Val.{Fits, SFits, to_z, of_z}
+use mir.Val.{SFits, to_z, of_z}
 use mir.Facts.{to_z-of_z, to_z_pos}
 use Rattle.whole.specs.Round.{on_side_of}
 use Rattle.whole.proofs.Ring.{negℤ-*ℤ}
-
-fits-size : (z : ℤ) → nat_abs z < 2 ^ 63 → SFits w64 z
-fits-size (pos n) h = record { sfits = h }
-fits-size (negsuc n) h = record { sfits = omega arith }
 
 -- z written as bits and read again
 abbrev pub again : ℤ → ℤ
@@ -28,76 +22,13 @@ again z = to_z w64 (of_z w64 z)
 pub again-is : (z : ℤ) → mag z < 2 ^ 63 → again z ≡ z
 again-is z h = to_z-of_z {w = w64} {z = z} (record { sfits = h })
 
--- ---- an operation of two numbers
-module _ (f : ℤ → ℤ → ℤ) (a b : ℤ) (ha : mag a < 2 ^ 63) (hb : mag b < 2 ^ 63) (h : nat_abs (f a b) < 2 ^ 63) where
-  operands : f (again a) (again b) ≡ f a b
-  operands = ap₂ f (again-is a ha) (again-is b hb)
-
-  pub result_fits : SFits w64 (f (again a) (again b))
-  result_fits = rw operands (fits-size (f a b) h)
-
-  pub result-is : again (f (again a) (again b)) ≡ f a b
-  result-is = ap again operands ∙ to_z-of_z {w = w64} {z = f a b} (fits-size (f a b) h)
-
 -- ---- the sign
-pub sign-is : (z : ℤ) → mag z < 2 ^ 63 → lt_z (again z) (pos 0) ≡ not (non_neg z)
+sign-is : (z : ℤ) → mag z < 2 ^ 63 → lt_z (again z) (pos 0) ≡ not (non_neg z)
 sign-is z h = ap (λ x. lt_z x (pos 0)) (again-is z h) ∙ sign z
   where
     sign : (z : ℤ) → lt_z z (pos 0) ≡ not (non_neg z)
     sign (pos a) = le-ltb a 0 (omega arith)
     sign (negsuc a) = refl
-
--- ---- from a number to its size: of a number that is not negative, and of a negative one, by −1 − z
-pub natural_casts : (z : ℤ) → mag z < 2 ^ 63 → lt_z (again z) (pos 0) ≡ false → T (non_neg (again z)) × Fits w64 (nat_abs (again z))
-natural_casts z h t = rw (again-is z h) (natural z h (sym (sign-is z h) ∙ t))
-  where
-    natural : (z : ℤ) → mag z < 2 ^ 63 → not (non_neg z) ≡ false → T (non_neg z) × Fits w64 (nat_abs z)
-    natural (pos a) h t = (tt, record { fits = omega arith })
-    natural (negsuc a) h t = absurd (true≢false t)
-
-module _ (z : ℤ) (h : mag z < 2 ^ 63) (t : lt_z (again z) (pos 0) ≡ true) where
-  negative : z ≡ negsuc (mag z)
-  negative = below z (sym (sign-is z h) ∙ t)
-    where
-      below : (z : ℤ) → not (non_neg z) ≡ true → z ≡ negsuc (mag z)
-      below (pos a) t = absurd (true≢false (sym t))
-      below (negsuc a) t = refl
-
-  other : negsuc 0 -ℤ again z ≡ pos (mag z)
-  other =
-      ap (λ x. negsuc 0 -ℤ x) (again-is z h ∙ negative) ∙ +ℤ_comm (negsuc 0) (pos (suc (mag z)))
-      ∙ -ℤ_one (pos (suc (mag z)))
-
-  other-is : again (negsuc 0 -ℤ again z) ≡ pos (mag z)
-  other-is = ap again other ∙ again-is (pos (mag z)) h
-
-  pub other_fits : SFits w64 (negsuc 0 -ℤ again z)
-  other_fits = rw other (record { sfits = h })
-
-  pub other-casts : T (non_neg (again (negsuc 0 -ℤ again z))) × Fits w64 (nat_abs (again (negsuc 0 -ℤ again z)))
-  other-casts = rw other-is (tt, record { fits = omega arith })
-
-  pub other-size : nat_abs (again (negsuc 0 -ℤ again z)) + 1 ≡ nat_abs z
-  other-size = rw other-is (add-one (mag z) ∙ sym (ap nat_abs negative))
-
--- ---- from a size to a negative number: −x is −1 − (x − 1)
-module _ (x : ℕ) (some : x ≡ 0 → ⊥) (h : x ≤ 2 ^ 63) where
-  lowered : negsuc 0 -ℤ to_z w64 (x - 1) ≡ negsuc (x - 1)
-  lowered = let b : x - 1 < 2 ^ 63 = omega arith in ap (λ z. negsuc 0 -ℤ z) (to_z_pos w64 b) ∙ one_less (x - 1)
-    where
-      one_less : (a : ℕ) → negsuc 0 -ℤ pos a ≡ negsuc a
-      one_less zero = refl
-      one_less (suc a) = ap (λ (n : ℕ). negsuc (suc n)) (zero-add a)
-
-  pub lowered-fits : SFits w64 (negsuc 0 -ℤ to_z w64 (x - 1))
-  lowered-fits = rw lowered (record { sfits = omega arith })
-
-  pub lowered_is : again (negsuc 0 -ℤ to_z w64 (x - 1)) ≡ neg_ℤ (pos x)
-  lowered_is = ap again lowered ∙ again-is (negsuc (x - 1)) (omega arith) ∙ minus x some
-    where
-      minus : (x : ℕ) → (x ≡ 0 → ⊥) → negsuc (x - 1) ≡ neg_ℤ (pos x)
-      minus zero f = absurd (f refl)
-      minus (suc x) f = ap negsuc (omega arith)
 
 -- ---- no further from zero than n, on its side: what is written as bits is read again
 pub record Written (z r : ℤ) : Type 0 where

@@ -10,6 +10,7 @@ ghost use Rattle.whole.specs.Round.{on_side_of, nearest, Divided};
 #[derive(Clone, Copy)]
 pub struct Num(pub i64);
 
+// kept: what may not change: public, with these clauses, and the crates above hand it Nums.
 pub fn sum(a: Num, b: Num) -> Num
     requires { nat_abs a.0 + nat_abs b.0 < 2 ^ 63 }
     ensures { (result.0 ≡ a.0 +ℤ b.0) × (nat_abs result.0 ≤ nat_abs a.0 + nat_abs b.0) }
@@ -26,20 +27,18 @@ pub fn product(a: Num, b: Num) -> Num
 
 // ---- a number by its sign and its size
 
+// kept: what may not change: public, with this clause.
 pub fn negative(n: Num) -> bool
     ensures { result ≡ not (non_neg n.0) }
 {
-    n.0 < 0
+    n.0.is_negative()
 }
 
+// kept: what may not change: public, with this clause.
 pub fn size(n: Num) -> u64
     ensures { (result ≡ nat_abs n.0) × (mag n.0 < 2 ^ 63) }
 {
-    if n.0 < 0 {
-        (-1 - n.0) as u64 + 1
-    } else {
-        n.0 as u64
-    }
+    n.0.unsigned_abs()
 }
 
 pub fn plus(x: u64) -> Num
@@ -53,16 +52,13 @@ pub fn minus(x: u64) -> Num
     requires { x ≤ 2 ^ 63 }
     ensures { result.0 ≡ neg_ℤ (pos x) }
 {
-    if x == 0 {
-        return Num(0);
-    }
-    Num(-1 - (x - 1) as i64)
+    Num(0i64.wrapping_sub_unsigned(x))
 }
 
 // ---- rounding
 
 // The greatest signed number of 64 bits.
-const LARGEST: u64 = 0x7fff_ffff_ffff_ffff;
+const LARGEST: u64 = i64::MAX as u64;
 
 // n/d, cut off toward zero.
 fn quotient(n: Num, d: u64) -> Num
@@ -77,8 +73,7 @@ fn left(n: Num, d: u64, q: Num) -> Num
     requires { (d < 2 ^ 63) × (q.0 ≡ on_side_of n.0 (nat_abs n.0 / d)) }
     ensures { result.0 ≡ on_side_of n.0 (nat_abs n.0 % d) }
 {
-    let all = n.0;
-    Num(all - q.0 * d as i64)
+    Num(n.0 - q.0 * d as i64)
 }
 
 // From q so many further from zero, on n's side.
@@ -94,11 +89,12 @@ fn further(q: Num, n: Num, up: u64) -> Num
 }
 
 // One more, where m is at least half of d. Nothing overflows, since m is compared with what it lacks to d.
+// kept: the new form is no plainer: its contract has both outcomes of the test, so that `settled` is proved for both at once.
 fn more(d: u64, m: u64) -> u64
     requires { m ≤ d }
     ensures { (d - m ≤ m → result ≡ 1) × (m < d - m → result ≡ 0) × (result ≤ 1) }
 {
-    if d - m <= m { 1 } else { 0 }
+    u64::from(d - m <= m)
 }
 
 // The rounded point of n/d by the quotient q and the size m of what it leaves. What decides is a number and no branch, since
@@ -115,11 +111,12 @@ fn settled(n: Num, d: u64, q: Num, m: u64) -> Num
 pub fn nearest(n: Num, d: u64) -> Num
     ensures { result.0 ≡ nearest n.0 d }
 {
+    // kept: what may not change: `nearest` of specs/Round.antt is 0 there.
     if d == 0 {
-        return plus(0);
+        return Num(0);
     }
     if d > LARGEST {
-        return settled(n, d, plus(0), size(n));
+        return settled(n, d, Num(0), size(n));
     }
     let q = quotient(n, d);
     settled(n, d, q, size(left(n, d, q)))

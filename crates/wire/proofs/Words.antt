@@ -1,13 +1,15 @@
 -- Laws of two-byte numbers: what is written is what is read, unsigned and signed, one number and many. Assumes nothing.
-use mathlib.Core.Path.{◌≡◌, refl, ap, ◌∙◌}
+use mathlib.Core.Path.{◌≡◌, refl, sym, ap, ◌∙◌}
 use mathlib.Core.List.{List, [], ◌∷◌, ◌++◌, append_assoc}
-use Prim.Native.Nat.{ℕ, zero, suc, ◌+◌, ◌*◌, ◌-◌, ◌≤◌, ◌<◌}
+use Prim.Native.Nat.{ℕ, zero, suc, ◌+◌, ◌*◌, ◌-◌, ◌≤◌, ◌<◌, ◌^◌, min}
 use native.Mathlib.Nat.{add_assoc}
 use native.Mathlib.Decide.{dec_lt}
 use native.Mathlib.Numerals.{add-one}
 use native.Mathlib.Omega.{arith}
 use lib.IntN.{ℤ, pos, negsuc, neg_ℤ}
-use lib.ListN.{length, get_or, take}
+use lib.ListN.{length, get_or, take, get_or-eq_default}
+use mir.Syntax.{w16}
+use mir.Val.{to_z}
 use lib.Seq.{get_or-append-add, take-suc, length-take-le}
 use borrow.Author.Tests.{lt-ltb, le-ltb}
 use Rattle.wire.specs.Words.{word_end, half, Short, word_bytes, word_at, unsigned, signed, number_bytes, number_at}
@@ -20,6 +22,16 @@ signed_below word m = rw (lt-ltb word half m)
 pub signed_above : (word : ℕ) → half ≤ word → signed word ≡ neg_ℤ (pos (word_end - word))
 unfolding signed
 signed_above word m = rw (le-ltb word half m)
+
+-- it is the one that the machine has for those two bytes
+pub signed-is : (word : ℕ) → word < word_end → to_z w16 word ≡ signed word
+signed-is word m = go (dec_lt word half)
+  where
+    go : Dec (word < half) → to_z w16 word ≡ signed word
+    go (yes h) = rw (lt-ltb word half h, signed_below word h)
+    go (no h) =
+        let e : word_end - word ≡ suc (word_end - suc word) = omega arith in
+        rw (le-ltb word half (omega arith), signed_above word (omega arith), e)
 
 negative-short : (x : ℕ) → x ≤ half → Short (neg_ℤ (pos x))
 negative-short zero m = omega arith
@@ -40,6 +52,14 @@ signed-unsigned (negsuc n) m =
     signed_above (word_end - suc n) (omega arith) ∙ ap (λ x. neg_ℤ (pos x)) e
 
 -- ---- an unsigned number and its bytes
+-- the next byte, also where its place is held at the greatest of 64 bits
+pub next_byte : (bytes : List ℕ) (k n : ℕ) → length bytes < 2 ^ 64 → n ≡ min (k + 1) (2 ^ 64 - 1) → get_or bytes n 0 ≡ get_or bytes (k + 1) 0
+next_byte bytes k n short e = go (dec_lt n (k + 1))
+  where
+    go : Dec (n < k + 1) → get_or bytes n 0 ≡ get_or bytes (k + 1) 0
+    go (no h) = let same : n ≡ k + 1 = omega arith in rw same
+    go (yes h) = get_or-eq_default bytes 0 {n = n} (omega arith) ∙ sym (get_or-eq_default bytes 0 {n = k + 1} (omega arith))
+
 -- read further on
 word_after : (before bytes : List ℕ) (k : ℕ) → word_at (before ++ bytes) (length before + k) ≡ word_at bytes k
 unfolding word_at

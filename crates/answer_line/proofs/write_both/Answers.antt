@@ -1,5 +1,6 @@
 -- `answer_line::write_both` meets its contract: a bar before each list. Assumes nothing.
 use native.Mathlib.Omega.{arith}
+use Rattle.std.proofs.lemmas.List.{map-id}
 use Rattle.answer_line.specs.Answer.{lists}
 use Rattle.spell.proofs.Writing.{written-within, written_then}
 use Rattle.answer_line.proofs.write_both.Goals as goal
@@ -9,5 +10,5 @@ unfolding lists
 returns c =
     written-within _ _ _ _ _ _
     (written_then 2 _ _ _ _ _ _ _ _ _ c.write_bar-a.ensures
-    (written_then _ _ _ _ _ _ _ _ _ _ c.write_exact-b.ensures
-    (written_then 2 _ _ _ _ _ _ _ _ _ c.write_bar-c.ensures c.write_points.ensures))) 2692 (omega arith)
+    (written_then _ _ _ _ _ _ _ _ _ _ (rw map-id at c.write_all-b.ensures)
+    (written_then 2 _ _ _ _ _ _ _ _ _ c.write_bar-c.ensures (rw map-id at c.write_all.ensures)))) 2692 (omega arith)

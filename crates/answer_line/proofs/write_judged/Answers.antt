@@ -6,4 +6,4 @@ use Rattle.answer_line.proofs.write_judged.Goals as goal
 pub returns : goal.returns
 unfolding judged
 returns c =
-    written_then 20 _ _ _ _ _ 21 _ _ _ c.write_natural-a.ensures c.write_next_natural.ensures
+    written_then 20 _ _ _ _ _ 21 _ _ _ (rw c.from.ensures at c.write_natural-a.ensures) c.write_next_natural.ensures

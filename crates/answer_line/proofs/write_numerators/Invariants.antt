@@ -1,12 +1,7 @@
 -- `answer_line::write_numerators` meets its contract: the numbers so far are written. Assumes nothing.
-use Prim.Native.Nat.{◌-◌}
-use lib.ListN.{length}
 use Rattle.two_words.specs.Words.{numbers_of}
 use Rattle.answer_line.proofs.Listing.{Listing}
 use Rattle.answer_line.proofs.write_numerators.Given as goal
 
 abbrev pub invariant-loop-k : goal.invariant-loop-k
 invariant-loop-k l = Listing 41 (numbers_of l.high l.low) l.initial.out l.at l.out l.end l.k
-
-abbrev pub decreases-loop-k : goal.decreases-loop-k
-decreases-loop-k l = length l.high - l.k

@@ -1,13 +1,9 @@
 -- `answer_line::write_patch` meets its contract: number, place and count, the lists and a newline. Assumes nothing.
 use mathlib.Core.List.{[]}
-use lib.ListN.{length-set}
 use native.Mathlib.Omega.{arith}
 use Rattle.answer_line.specs.Answer.{patch_line}
 use Rattle.spell.proofs.Writing.{written_none, written-first, written-within, written_then}
 use Rattle.answer_line.proofs.write_patch.Goals as goal
-
-pub shape_of-out : goal.shape_of-out
-shape_of-out c = simp length-set (omega arith)
 
 pub returns : goal.returns
 unfolding patch_line

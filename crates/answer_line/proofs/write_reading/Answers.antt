@@ -1,13 +1,9 @@
 -- `answer_line::write_reading` meets its contract: number, place, reading and a newline. Assumes nothing.
 use mathlib.Core.List.{[]}
 use native.Mathlib.Omega.{arith}
-use lib.ListN.{length-set}
 use Rattle.answer_line.specs.Answer.{reading_line}
 use Rattle.spell.proofs.Writing.{written_none, written-first, written-within, written_then}
 use Rattle.answer_line.proofs.write_reading.Goals as goal
-
-pub shape_of-out : goal.shape_of-out
-shape_of-out c = simp length-set (omega arith)
 
 pub returns : goal.returns
 unfolding reading_line

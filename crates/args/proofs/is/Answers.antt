@@ -1,6 +1,7 @@
 -- `args::is` meets its contract. Assumes nothing.
-use Rattle.args.proofs.Words.{alike_is}
+use Rattle.std.proofs.Common.{sym, ◌∙◌}
+use Rattle.args.proofs.Words.{alike-pointwise}
 use Rattle.args.proofs.is.Goals as goal
 
 pub returns : goal.returns
-returns c = alike_is _ _ _ c.same.ensures.0 c.same.ensures.1
+returns c = c.eq.ensures ∙ sym (alike-pointwise _ _)

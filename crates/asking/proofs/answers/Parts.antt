@@ -6,9 +6,10 @@ use mathlib.Core.List.{List, []}
 use Prim.Native.Nat.{ℕ, suc, ◌≤◌, ◌<◌}
 use native.Mathlib.Omega.{arith}
 use lib.Dec.{eqb}
+use Rattle.std.proofs.Common.{Result, Ok, Err}
 use lib.ListN.{length, get_or, take, drop}
 use lib.Seq.{drop-cons}
-use borrow.Author.Tests.{eq-eqb, ne_eqb, lt-ltb, le-ltb}
+use borrow.Author.Tests.{lt-ltb, le-ltb}
 use Rattle.text.specs.words.Words.{next, every}
 use Rattle.text.specs.declared.words.Cursor.{Cursor}
 use Rattle.text.specs.pieces.Kept.{is_passed, is_text, Cut, cut_at, Cuts}
@@ -16,8 +17,7 @@ use Rattle.text.proofs.pieces.Keeping.{kept_whole}
 use Rattle.text.specs.declared.pieces.Piece.{Piece}
 use Rattle.text.specs.kinds.Kinds.{longest_line, overlong, begun, is_kind, opened}
 use Rattle.text.specs.kinds.Read.{Replies}
-use Rattle.text.specs.declared.kinds.Replied.{Replied}
-use Rattle.text.proofs.kinds.Owed.{overlong-unnamed, named-short, replied-nothing}
+use Rattle.text.proofs.kinds.Owed.{overlong-unnamed, named-short}
 use Rattle.text.specs.Line.{request}
 use Rattle.text.proofs.Readers.{said-overlong}
 use Rattle.spell.specs.Decimal.{Front}
@@ -45,7 +45,7 @@ module _ (line : List ℕ) (o w : Cursor) (begin : o ≡ begun line) (first : w 
   pub named-fits : (name : List ℕ) (r : Bool) → r ≡ is_kind line w name → r ≡ true → length line ≤ longest_line
   named-fits name r kind t = named-short line name (is-named name r kind ∙ t)
 
-  module _ (out out' : List ℕ) (x : Replied) (r : Bool) (tick : r ≡ is_kind line w tick_word) where
+  module _ (out out' : List ℕ) (x : Result ℕ Cursor) (r : Bool) (tick : r ≡ is_kind line w tick_word) where
     pub replies-tick : r ≡ true → Replies (ticks.spoken line w) line out out' x → Replies (spoken_of line) line out out' x
     unfolding spoken_of
     replies-tick t s = rw (is-named tick_word r tick, t, ← is-opened) s
@@ -72,23 +72,24 @@ module _ (line : List ℕ) (row : ℕ) (out err : List ℕ) where
   unfolding answer_of complaint_of
   says-passed t = rw (← t) (silent out err)
 
-  module _ (p : false ≡ is_passed line) (between : List ℕ) (r : Replied) (is : Replies (spoken_of line) line out between r) (large : 4096 ≤ length out) where
-    pub says-wrong : (r.cursor.wrong ≡ 0 → ⊥) → (out' err' : List ℕ) (m n : ℕ) → m ≤ length out → n ≤ length err → Front unreadable between out' m
-        → Front (complaint row line r.cursor) err err' n
+  module _ (p : false ≡ is_passed line) (between : List ℕ) (large : 4096 ≤ length out) where
+    pub says-wrong : (c : Cursor) → Replies (spoken_of line) line out between (Err c) → (out' err' : List ℕ) (m n : ℕ) → m ≤ length out
+        → n ≤ length err → Front unreadable between out' m
+        → Front (complaint row line c) err err' n
         → Says (answer_of line) (complaint_of row line) out err out' err' m n
     unfolding answer_of complaint_of
-    says-wrong w out' err' m n k l a b =
-        rw (← p, ← is.cursor, ne_eqb _ _ w)
-        (record { answered = rw (replied-nothing _ _ _ _ _ is w) at a; complained = b; answer_fits = k; complaint_fits = l })
+    says-wrong c is out' err' m n k l a b =
+        rw (← p, is.said.0)
+        (record { answered = rw is.said.2 at a; complained = rw is.said.1 at b; answer_fits = k; complaint_fits = l })
 
-    pub says-right : r.cursor.wrong ≡ 0 → Says (answer_of line) (complaint_of row line) out err between err r.end 0
+    pub says-right : (end : ℕ) → Replies (spoken_of line) line out between (Ok end) → Says (answer_of line) (complaint_of row line) out err between err end 0
     unfolding answer_of complaint_of
-    says-right w =
-        let e = eq-eqb _ 0 (ap (λ x. x.wrong) (sym is.cursor) ∙ w) in
-        rw (← p, e) (record {
-          answered = written-front _ _ _ _ _ (rw e at is.wrote);
+    says-right end is =
+        let wrote = is.said.1 in
+        rw (← p, is.said.0) (record {
+          answered = written-front _ _ _ _ _ wrote;
           complained = none err;
-          answer_fits = omega (arith, is.wrote.small);
+          answer_fits = omega (arith, wrote.small);
           complaint_fits = omega arith;
         })
 

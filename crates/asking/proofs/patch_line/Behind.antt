@@ -11,10 +11,11 @@ use Rattle.text.specs.declared.words.Cursor.{Cursor}
 use Rattle.text.specs.kinds.Kinds.{ended}
 use Rattle.text.specs.kinds.Read.{answer_most}
 use Rattle.text.specs.numbers.Numbers.{most, largest, natural, listed}
-use Rattle.text.specs.declared.numbers.Got.{Got}
+use Rattle.text.specs.declared.words.After.{After}
+use Rattle.text.specs.declared.words.Whole.{Whole}
 use Rattle.text.proofs.numbers.Zeros.{zeros, list-size, list_read}
 use Rattle.text.specs.rooms.Shown.{roomed, shown}
-use Rattle.text.specs.declared.rooms.Roomed.{Roomed}
+use Rattle.text.specs.declared.rooms.Rooms.{Rooms}
 use Rattle.patch_net.specs.Patch.{Patch}
 use Rattle.patch_net.specs.Afterwards.{Patched}
 use Rattle.answer_line.specs.Answer.{patch_line}
@@ -22,16 +23,16 @@ use Rattle.asking.specs.patch_line.Line.{most_places, asked, reply_of, line_of}
 use Rattle.asking.specs.patch_line.Read.{ReadsPatch, Fits, line_in}
 use Rattle.asking.specs.declared.patch_line.Reading.{Reading}
 
-pub asked_is : (line : List ℕ) (c : Cursor) (n N : Got) (a b : Cursor) (m : Roomed) (e : Cursor) → n ≡ natural line c largest
+pub asked_is : (line : List ℕ) (c : Cursor) (n N : After Whole) (a b : Cursor) (m : After Rooms) (e : Cursor) → n ≡ natural line c largest
     → N ≡ natural line n.cursor largest → a ≡ (listed line N.cursor).cursor → b ≡ (listed line a).cursor
     → m ≡ roomed most_places line b → e ≡ ended line m.cursor
     → asked line c ≡ record {
       cursor = e;
-      n = n.size;
-      N = N.size;
+      n = n.value.size;
+      N = N.value.size;
       surface = (listed line N.cursor).numbers;
       path = (listed line a).numbers;
-      rooms = m.rooms;
+      rooms = m.value;
     }
 unfolding asked
 asked_is line c n N a b m e o p q r s t = rw (← o, ← p, ← q, ← r, ← s, ← t)

@@ -4,10 +4,12 @@ use mathlib.Core.Path.{◌≡◌, refl}
 use mathlib.Core.Bool.{true, false}
 use mathlib.Core.List.{List, [], ◌∷◌, map}
 use Prim.Native.Nat.{ℕ}
+use Rattle.std.proofs.Common.{Some, None}
+use Rattle.text.specs.declared.words.Wrong.TheVariants.{NotNumber, LeftOver}
 use lib.IntN.{pos, negsuc}
-use Rattle.text.specs.words.Words.{is_blank, is_solid, is_digit, run, every, word_after, next, spelled, signed, digits_within, number_of, begins, is_age}
+use Rattle.text.specs.words.Words.{is_blank, is_solid, is_digit, run, every, word_after, next, spelled, signed, size_within, number_of, begins, is_age}
 use Rattle.text.specs.kinds.Kinds.{begun, ended, opened}
-use Rattle.text.specs.numbers.Numbers.{number, value, after_values, values, listed}
+use Rattle.text.specs.numbers.Numbers.{taken, number, value, after_values, values, listed}
 use Rattle.text.specs.rooms.Shown.{roomed}
 use Rattle.text.specs.declared.rooms.Rooms.{Rooms}
 use Rattle.asking.specs.patch_line.Line.{asked}
@@ -26,12 +28,12 @@ own : Rooms
 own = record { given = false; exact = 55; points = 55 }
 
 lines_are : map (λ line. asked line (opened line)) lines
-    ≡ record { cursor = record { start = 19; end = 23; wrong = 0 }; n = 1; N = 2; surface = negsuc 6 ∷ []; path = pos 0 ∷ pos 1024 ∷ []; rooms = own }
-    ∷ record { cursor = record { start = 16; end = 17; wrong = 0 }; n = 0; N = 3; surface = []; path = []; rooms = record { given = true; exact = 5; points = 6 } }
-    ∷ record { cursor = record { start = 14; end = 15; wrong = 4 }; n = 1; N = 2; surface = []; path = []; rooms = own }
-    ∷ record { cursor = record { start = 8; end = 9; wrong = 1 }; n = 1; N = 0; surface = []; path = []; rooms = own }
-    ∷ record { cursor = record { start = 14; end = 19; wrong = 4 }; n = 1; N = 2; surface = []; path = []; rooms = own }
+    ≡ record { cursor = record { start = 19; end = 23; wrong = None }; n = 1; N = 2; surface = negsuc 6 ∷ []; path = pos 0 ∷ pos 1024 ∷ []; rooms = own }
+    ∷ record { cursor = record { start = 16; end = 17; wrong = None }; n = 0; N = 3; surface = []; path = []; rooms = record { given = true; exact = 5; points = 6 } }
+    ∷ record { cursor = record { start = 14; end = 15; wrong = Some LeftOver }; n = 1; N = 2; surface = []; path = []; rooms = own }
+    ∷ record { cursor = record { start = 8; end = 9; wrong = Some NotNumber }; n = 1; N = 0; surface = []; path = []; rooms = own }
+    ∷ record { cursor = record { start = 14; end = 19; wrong = Some LeftOver }; n = 1; N = 2; surface = []; path = []; rooms = own }
     ∷ []
-unfolding lines own asked opened begun ended roomed listed values after_values value number number_of digits_within signed spelled next word_after every
+unfolding lines own asked opened begun ended roomed listed values after_values value number taken number_of size_within signed spelled next word_after every
     run begins is_age is_digit is_solid is_blank
 lines_are = refl

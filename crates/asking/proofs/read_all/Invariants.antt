@@ -4,10 +4,7 @@ use lib.ListN.{length}
 use Rattle.asking.specs.Asked.{Read}
 use Rattle.asking.proofs.read_all.Given as goal
 
-abbrev pub invariant-loop-turns : goal.invariant-loop-turns
-invariant-loop-turns l =
+abbrev pub invariant-loop : goal.invariant-loop
+invariant-loop l =
     (length l.part ≡ length l.initial.part) × (length l.line ≡ length l.initial.line)
-    × Read (record { name = l.name; by_names = l.by_names }) l.initial.line l.initial.turn.input l.initial.turn.state l.line l.turn.input l.turn.state
-
-abbrev pub decreases-loop-turns : goal.decreases-loop-turns
-decreases-loop-turns l = l.turns
+    × Read (record { name = l.how.name.now; by_names = l.how.by_names }) l.initial.line l.initial.turn.input l.initial.turn.state l.line l.turn.input l.turn.state

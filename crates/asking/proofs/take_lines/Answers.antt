@@ -1,6 +1,6 @@
 -- `asking::take_lines` meets its contract: what the part tells before `at` was told. Assumes nothing.
 use mathlib.Core.Path.{refl}
-use Prim.Native.Nat.{◌-◌, ◌≤◌}
+use Prim.Native.Nat.{◌≤◌}
 use lib.ListN.{length}
 use Rattle.asking.proofs.answers.Parts.{takes-further}
 use Rattle.asking.proofs.Telling.{carries-none, turn_more, part-over}

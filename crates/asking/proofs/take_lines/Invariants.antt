@@ -8,7 +8,7 @@ use Rattle.asking.proofs.take_lines.Given as goal
 abbrev pub invariant-loop-at : goal.invariant-loop-at
 invariant-loop-at l =
     (length l.line ≡ length l.initial.line) × (length l.out ≡ length l.initial.out) × (length l.err ≡ length l.initial.err) × (length l.spare ≡ length l.initial.spare)
-    × Carries (record { name = l.name; by_names = l.by_names }) (take l.at l.part) l.initial.line l.initial.told l.line l.told
+    × Carries (record { name = l.how.name.now; by_names = l.how.by_names }) (take l.at l.part) l.initial.line l.initial.told l.line l.told
 
 abbrev pub decreases-loop-at : goal.decreases-loop-at
 decreases-loop-at l = length l.part - l.at

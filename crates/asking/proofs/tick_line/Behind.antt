@@ -8,7 +8,8 @@ use lib.ListN.{length, take}
 use Rattle.text.specs.declared.words.Cursor.{Cursor}
 use Rattle.text.specs.kinds.Kinds.{ended}
 use Rattle.text.specs.numbers.Numbers.{largest, natural, listed}
-use Rattle.text.specs.declared.numbers.Got.{Got}
+use Rattle.text.specs.declared.words.After.{After}
+use Rattle.text.specs.declared.words.Whole.{Whole}
 use Rattle.text.proofs.numbers.Zeros.{zeros, list-size, list_read}
 use Rattle.tick.specs.declared.Tick.{Tick}
 use Rattle.tick.specs.Told.{told}
@@ -16,8 +17,8 @@ use Rattle.asking.specs.tick_line.Line.{asked, tick_answer, spoken}
 use Rattle.asking.specs.tick_line.Read.{ReadsTick}
 use Rattle.asking.specs.declared.tick_line.Reading.{Reading}
 
-pub asked_is : (line : List ℕ) (c a : Cursor) (k : Got) (e : Cursor) → a ≡ (listed line c).cursor → k ≡ natural line a largest
-    → e ≡ ended line k.cursor → asked line c ≡ record { cursor = e; points = (listed line c).numbers; k = k.size }
+pub asked_is : (line : List ℕ) (c a : Cursor) (k : After Whole) (e : Cursor) → a ≡ (listed line c).cursor → k ≡ natural line a largest
+    → e ≡ ended line k.cursor → asked line c ≡ record { cursor = e; points = (listed line c).numbers; k = k.value.size }
 unfolding asked
 asked_is line c a k e p q r = rw (← p, ← q, ← r)
 

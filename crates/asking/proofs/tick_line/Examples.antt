@@ -4,14 +4,16 @@ use mathlib.Core.Path.{◌≡◌, refl}
 use mathlib.Core.Bool.{false}
 use mathlib.Core.List.{List, [], ◌∷◌, map}
 use Prim.Native.Nat.{ℕ}
+use Rattle.std.proofs.Common.{Some}
+use Rattle.text.specs.declared.words.Wrong.TheVariants.{NotNumber, Outside, TooFew, LeftOver}
 use Rattle.whole.specs.Round.{half_up, on_side_of, nearest}
 use Rattle.request.specs.units.Bounds.{beyond_travel}
 use Rattle.request.specs.Cascade.{first, refused, decided}
 use Rattle.request.specs.Refusal.{least, value_place}
 use Rattle.spell.specs.Decimal.{digits_of, digits, decimal}
-use Rattle.text.specs.words.Words.{is_blank, is_solid, is_digit, run, every, word_after, next, spelled, signed, digits_within, number_of, begins}
+use Rattle.text.specs.words.Words.{is_blank, is_solid, is_digit, run, every, word_after, next, spelled, signed, size_within, number_of, begins}
 use Rattle.text.specs.kinds.Kinds.{begun, ended, is_word, is_kind, opened, Spoken}
-use Rattle.text.specs.numbers.Numbers.{number, value, after_values, values, listed}
+use Rattle.text.specs.numbers.Numbers.{taken, number, value, after_values, values, listed}
 use Rattle.tick.specs.Reading.{carried, between, lower, after, reading}
 use Rattle.tick.specs.Told.{not_net, not_point, not_moment, refusals, judged, told}
 use Rattle.answer_line.specs.Answer.{reading_line}
@@ -38,8 +40,8 @@ good-are : map (λ line. (says line).answer) good
     ∷ (49 ∷ 49 ∷ 32 ∷ 48 ∷ 32 ∷ 48 ∷ 10 ∷ [])
     ∷ []
 unfolding good says spoken asked tick_answer reading_line lines.judged told judged refusals first refused decided not_net not_point not_moment value_place
-    least beyond_travel reading after lower between carried nearest on_side_of half_up decimal digits digits_of opened begun ended listed values after_values value number number_of
-    digits_within signed spelled next word_after every run is_digit is_solid is_blank
+    least beyond_travel reading after lower between carried nearest on_side_of half_up decimal digits digits_of opened begun ended listed values after_values value number taken number_of
+    size_within signed spelled next word_after every run is_digit is_solid is_blank
 good-are = refl
 
 -- `tick 2 7 8`, `tick 1 7 8 9`, `tick 1 7x 8`, `tick 65 0`: too few words, `9` left over, `7x` no number, `65` outside its bounds
@@ -52,12 +54,12 @@ bad =
     ∷ []
 
 bad-are : map (λ line. (says line).cursor) bad
-    ≡ record { start = 10; end = 10; wrong = 3 }
-    ∷ record { start = 11; end = 12; wrong = 4 }
-    ∷ record { start = 7; end = 9; wrong = 1 }
-    ∷ record { start = 5; end = 7; wrong = 2 }
+    ≡ record { start = 10; end = 10; wrong = Some TooFew }
+    ∷ record { start = 11; end = 12; wrong = Some LeftOver }
+    ∷ record { start = 7; end = 9; wrong = Some NotNumber }
+    ∷ record { start = 5; end = 7; wrong = Some Outside }
     ∷ []
-unfolding bad says spoken asked opened begun ended listed values after_values value number number_of digits_within signed spelled next word_after every run is_digit
+unfolding bad says spoken asked opened begun ended listed values after_values value number taken number_of size_within signed spelled next word_after every run is_digit
     is_solid is_blank
 bad-are = refl
 

@@ -1,5 +1,5 @@
 -- The answer to a line of any kind, as bytes; and what is told of a line that cannot be read. Assumes nothing.
-use Rattle.std.specs.Prelude.{cond, List, [], ℕ, eqb}
+use Rattle.std.specs.Prelude.{cond, List, [], ℕ, is_some}
 use Rattle.text.specs.pieces.Kept.{is_passed}
 use Rattle.text.specs.kinds.Kinds.{is_kind, opened, Spoken}
 use Rattle.asking.specs.tick_line.Line as ticks
@@ -15,9 +15,9 @@ spoken_of line =
 
 -- what is answered to a line: nothing where it is passed over
 unfoldable pub answer_of : List ℕ → List ℕ
-answer_of line = cond (is_passed line) [] (cond (eqb (spoken_of line).cursor.wrong 0) (spoken_of line).answer unreadable)
+answer_of line = cond (is_passed line) [] (cond (is_some (spoken_of line).cursor.wrong) unreadable (spoken_of line).answer)
 
 -- what is told of a line by its number: nothing where it is passed over, or can be read
 unfoldable pub complaint_of : ℕ → List ℕ → List ℕ
 complaint_of row line =
-    cond (is_passed line) [] (cond (eqb (spoken_of line).cursor.wrong 0) [] (complaint row line (spoken_of line).cursor))
+    cond (is_passed line) [] (cond (is_some (spoken_of line).cursor.wrong) (complaint row line (spoken_of line).cursor) [])

@@ -37,11 +37,11 @@ asked line c =
     let lent = roomed most_places line path.cursor in
     record {
       cursor = ended line lent.cursor;
-      n = n.size;
-      N = N.size;
+      n = n.value.size;
+      N = N.value.size;
       surface = surface.numbers;
       path = path.numbers;
-      rooms = lent.rooms;
+      rooms = lent.value;
     }
 
 -- the answer line of a patch whose arrays for numerators and points are lent

@@ -22,7 +22,7 @@ unfoldable pub asked : List ℕ → Cursor → Asked
 asked line c =
     let points = listed line c in
     let k = natural line points.cursor largest in
-    record { cursor = ended line k.cursor; points = points.numbers; k = k.size }
+    record { cursor = ended line k.cursor; points = points.numbers; k = k.value.size }
 
 unfoldable pub tick_answer : Tick → List ℕ
 tick_answer t = reading_line t.number t.place t.reading

@@ -49,18 +49,17 @@ pub fn take(
         line.new out.new err.new result }
 {
     let piece = text::pieces::cut(part, at, line, lines.kept);
-    let kept = piece.kept;
     if !piece.ended {
         return Taken {
             at: piece.at,
             lines: Lines {
-                kept,
-                row: lines.row,
+                kept: piece.kept,
+                ..lines
             },
             answer: 0,
             complaint: 0,
         };
     }
-    let said = answer(&line[..kept], lines.row, out, err);
+    let said = answer(&line[..piece.kept], lines.row, out, err);
     behind(piece.at, lines.row, said.answer, said.complaint)
 }

@@ -1,5 +1,5 @@
 -- `card::lower` meets its contract: each turn makes one place. Assumes nothing.
-use Prim.Native.Nat.{ℕ, ◌<◌, ◌-◌, ◌+◌}
+use Prim.Native.Nat.{ℕ, ◌<◌, ◌+◌}
 use mathlib.Core.Path.{◌≡◌, sym, subst, ◌∙◌}
 use native.Mathlib.Nat.{ne_of_lt, lt_of_lt_of_le}
 use borrow.Author.Count.{below_none, below_more}
@@ -12,7 +12,7 @@ use Rattle.floats.specs.Step.{mixed}
 use Rattle.card.proofs.lower.Goals as goal
 
 pub loop-i-init : goal.loop-i-init
-loop-i-init c = (search rules, search rules, record { each = below_none _ })
+loop-i-init c = (search rules, record { each = below_none _ })
 
 pub loop-i-preserved : goal.loop-i-preserved
 loop-i-preserved c =
@@ -20,14 +20,13 @@ loop-i-preserved c =
     let net = c.args.net in
     let u = c.args.u in
     let v = c.step.result in (
-      omega arith,
-      length-set l.out l.i v ∙ l.invariant.1,
+      length-set l.out l.i v ∙ l.invariant.0,
       record {
         each = below_more (λ (k : ℕ). get_or (set l.out l.i v) k nan ≡ mixed (get_or net k nan) (get_or net (k + 1) nan) u) l.i
-            (λ k h. get_or-set_other l.out l.i k v nan (ne_of_lt h) ∙ l.invariant.2.each k h)
-            (get_or-set_same l.out l.i v nan (subst (λ (n : ℕ). l.i < n) (sym l.invariant.1) (omega arith)) ∙ c.step.ensures.is);
+            (λ k h. get_or-set_other l.out l.i k v nan (ne_of_lt h) ∙ l.invariant.1.each k h)
+            (get_or-set_same l.out l.i v nan (subst (λ (n : ℕ). l.i < n) (sym l.invariant.0) (omega arith)) ∙ c.step.ensures.is);
       },
     )
 
 pub returns : goal.returns
-returns c = record { each = λ k h. c.loop-i.invariant.2.each k (lt_of_lt_of_le h c.loop-i-test.false) }
+returns c = record { each = λ k h. c.loop-i.invariant.1.each k (lt_of_lt_of_le h c.loop-i-test.false) }

@@ -1,5 +1,6 @@
 -- `card::refused` meets its contract: the bits of 0.0 are all 0. Assumes nothing.
 use mathlib.Core.Path.{refl}
+use Rattle.std.proofs.Common.{rules}
 use lib.Ieee.{of_bits, to_bits}
 use Rattle.request.specs.Cascade.{refused}
 use Rattle.floats.specs.Float.{bits}
@@ -8,4 +9,4 @@ use Rattle.card.proofs.refused.Goals as goal
 
 pub returns : goal.returns
 unfolding refused five bits_at bits of_bits to_bits
-returns c = record { shows = λ rq. record { number_is = refl; place_is = refl; count_is = refl; bits_are = refl } }
+returns c = record { shows = λ rq. record { number_is = search rules; place_is = refl; count_is = refl; bits_are = refl } }

@@ -3,11 +3,11 @@ use mathlib.Core.Path.{◌≡◌, ap, ◌∙◌}
 use mathlib.Core.List.{List}
 use Prim.Native.Nat.{ℕ}
 use native.Mathlib.Omega.{arith}
-use lib.ListN.{take}
 use Rattle.pairs.specs.Cut.{longest_record, cut}
-use Rattle.feed.specs.Feed.{Feed, held_of, feed_in, feed_of as fed_of}
+use Rattle.feed.specs.Feed.{Feed, feed_of as fed_of}
 use Rattle.feed.specs.Parts.{uncut, after_all}
 use Rattle.feed.proofs.Reading.{Proper, held-again}
+use Rattle.feed.proofs.Taking.{Holds}
 use Rattle.feed.proofs.Readers.{at_once, in_parts}
 use Rattle.day.specs.declared.sheets.Sheet.{Sheet}
 use Rattle.day.specs.sheets.Sheet.{sheet_in}
@@ -16,11 +16,11 @@ use Rattle.day.proofs.sheets.Adding.{folded-sheet}
 use Rattle.day.specs.declared.daily.State.{State}
 use Rattle.day.specs.daily.Read.{feed_of, state_of, blank_state, after_part}
 
-pub state-is : (held held' : List ℕ) (rest : ℕ) (sheet : Sheet) (s : Feed Sheet) → feed_in held rest sheet ≡ s
-    → held' ≡ held_of (take rest held)
-    → record { held = held'; rest = rest; sheet = sheet } ≡ state_of s
+-- a state that has what a feed holds, and nothing else
+pub state-is : (held : List ℕ) (rest : ℕ) (sheet : Sheet) (s : Feed Sheet) → Holds s held rest sheet
+    → record { held = held; rest = rest; sheet = sheet } ≡ state_of s
 unfolding state_of
-state-is held held' rest sheet s e f = rw (f, ← e)
+state-is held rest sheet s h = rw (h.held_is, h.rest_is, h.gathered_is)
 
 -- what a state holds that holds nothing else
 holds-again : (s : Feed Sheet) → Proper s → feed_of (state_of s) ≡ s

@@ -1,5 +1,5 @@
 -- `day::sheet_all` meets its contract: a read failed, or the lines are written. Assumes nothing.
-use mathlib.Core.Path.{refl}
+use mathlib.Core.Path.{refl, ap, ◌∙◌}
 use native.Mathlib.Omega.{arith}
 use lib.ListN.{length-take}
 use Rattle.pairs.specs.Cut.{longest_record}
@@ -8,14 +8,15 @@ use Rattle.day.specs.sheet_lines.Lines.{sheet_lines, lines_room}
 use Rattle.day.specs.declared.daily.State.{State}
 use Rattle.day.specs.daily.Read.{blank_state, after_part}
 use Rattle.day.proofs.daily.Promises.{same-sheet}
-use Rattle.reading.proofs.Taking.{failed, written}
+use Rattle.reading.proofs.Taking.{took, failed, written}
 use borrow.Author.Rules.{rules}
 use Rattle.day.proofs.sheet_all.Goals as goal
 
-pub returns-then-behind : goal.returns-then-behind
-returns-then-behind c =
+pub returns-then-input : goal.returns-then-input
+returns-then-input c =
+    let read = took _ after_part (λ s part s' t. t.met ∙ ap (after_part s) t.shows) c.read_all.ensures in
     failed after_part blank_state (λ (s : State). s.sheet) (sheet_in longest_record) sheet_lines same-sheet c.new.ensures
-    c.read_all-day.ensures refl _ c.if-behind.true
+    read refl _ c.if-input.true
 
 pub slice_bounds-lines-end : goal.slice_bounds-lines-end
 slice_bounds-lines-end c = omega (arith, c.write_sheet-n.ensures.within)
@@ -25,6 +26,7 @@ slice_bounds-write-end c = simp length-take (omega (arith, c.write_sheet-n.ensur
 
 pub returns : goal.returns
 returns c =
+    let read = took _ after_part (λ s part s' t. t.met ∙ ap (after_part s) t.shows) c.read_all.ensures in
     written after_part blank_state (λ (s : State). s.sheet) (sheet_in longest_record) sheet_lines same-sheet c.new.ensures
-    c.read_all-day.ensures refl lines_room _ _
-    _ _ _ c.if-behind.false (search rules) c.write_sheet-n.ensures c.write.ensures
+    read refl lines_room _ _
+    _ _ _ c.if-input.false (search rules) c.write_sheet-n.ensures c.write.ensures

@@ -1,64 +1,16 @@
--- Laws of the leaves of the sheet: an odd reply by its tests, the span a point at a time. Assumes nothing.
-use mathlib.Core.Path.{◌≡◌, refl, sym, ◌∙◌}
-use mathlib.Core.Bool.{true, false, not, ◌&&◌}
+-- Laws of the leaves of the sheet: the span a point at a time, and a pair by its reply. Assumes nothing.
+use mathlib.Core.Path.{◌≡◌, refl}
 use mathlib.Core.List.{List}
-use Prim.Native.Nat.{ℕ, suc, ◌+◌, ◌-◌, ◌*◌, ◌≤◌, ◌<◌}
+use Prim.Native.Nat.{ℕ, suc, ◌+◌, ◌-◌, ◌≤◌, ◌<◌}
 use native.Mathlib.Omega.{arith}
-use lib.Dec.{eqb, ltb}
 use lib.IntN.{ℤ}
-use lib.ListN.{length, get_or}
-use borrow.Author.Tests.{eq-eqb, ne_eqb, lt-ltb, le-ltb}
-use Rattle.wire.specs.Words.{word_at, number_at}
-use Rattle.wire.specs.Start.{kind_field, start, record_in, behind}
-use Rattle.replies.specs.Reply.{reply_kind}
+use Rattle.wire.specs.Words.{number_at}
+use Rattle.wire.specs.Start.{start, record_in, behind}
 use Rattle.pairs.specs.Cut.{pair_in}
 use Rattle.day.specs.declared.sheets.Span.{Span}
 use Rattle.day.specs.declared.sheets.Sheet.{Sheet}
-use Rattle.day.specs.sheets.Sheet.{in_turn, number_of, count_of, is_odd, points_in, lesser, greater, widened, widened_all}
+use Rattle.day.specs.sheets.Sheet.{in_turn, count_of, points_in, widened, widened_all}
 use Rattle.day.specs.sheets.Fold.{with_reply, adds}
-
-module _ (reply : List ℕ) (kind : ℕ) (e : kind ≡ word_at reply 2) where
-  pub odd-kind : (kind ≡ reply_kind → ⊥) → true ≡ is_odd reply
-  unfolding is_odd kind_field
-  odd-kind k = rw (ne_eqb (word_at reply 2) reply_kind (λ h. k (e ∙ h)))
-
-  module _ (k : kind ≡ reply_kind) (n : ℕ) (g : n ≡ get_or reply 4 0) where
-    kind-is : eqb (kind_field reply) reply_kind ≡ true
-    unfolding kind_field
-    kind-is = eq-eqb _ _ (sym e ∙ k)
-
-    pub odd_number : 10 < n → true ≡ is_odd reply
-    unfolding is_odd
-    odd_number l = rw (kind-is, lt-ltb 10 (number_of reply) (omega arith))
-
-    module _ (l : n ≤ 10) (m : ℕ) (h : m ≡ get_or reply 6 0) where
-      number_is : ltb 10 (number_of reply) ≡ false
-      number_is = le-ltb 10 (number_of reply) (omega arith)
-
-      pub odd-length : (length reply ≡ 8 + 2 * m → ⊥) → true ≡ is_odd reply
-      unfolding is_odd
-      odd-length d =
-          let other = ne_eqb (length reply) (8 + 2 * count_of reply) (λ (q : length reply ≡ 8 + 2 * count_of reply). d (omega arith)) in
-          rw (kind-is, number_is, other)
-
-      module _ (s : length reply ≡ 8 + 2 * m) where
-        size_is : eqb (length reply) (8 + 2 * count_of reply) ≡ true
-        size_is = eq-eqb (length reply) (8 + 2 * count_of reply) (omega arith)
-
-        pub refusal-count : (not (eqb n 0) && not (eqb m 0)) ≡ is_odd reply
-        unfolding is_odd
-        refusal-count = rw (kind-is, number_is, size_is, ← g, ← h)
-
--- one point more, where there was none and where there was one
-module _ (s : Span) (z : ℤ) (l m : ℤ) where
-  pub widen_none : s.some ≡ false → l ≡ z → m ≡ z → record { some = true; least = l; most = m } ≡ widened s z
-  unfolding widened
-  widen_none e f g = rw (e, f, g)
-
-  pub widen-some : s.some ≡ true → l ≡ lesser s.least z → m ≡ greater s.most z
-      → record { some = true; least = l; most = m } ≡ widened s z
-  unfolding widened
-  widen-some e f g = rw (e, f, g)
 
 -- a loop over the points of a reply: what those that are left make of the span is what all of them make of the first
 abbrev pub Widening : List ℕ → Span → ℕ → Span → ℕ → Type 0

@@ -1,6 +1,6 @@
 -- The reader of the five numbers: a fold of the pairs. What a part does is defined for every reader, also for one that no
 -- reading makes. That a reader has the five numbers of what it took is in proofs/Reading.antt. Assumes nothing.
-use Rattle.std.specs.Prelude.{◌≡◌, List, ℕ, ◌≤◌, ◌<◌, length, take}
+use Rattle.std.specs.Prelude.{List, ℕ}
 use Rattle.door.specs.Contract.{reply_of}
 use Rattle.pairs.specs.Cut.{longest_record}
 use Rattle.feed.specs.Feed.{Feed, blank, stepped, held_of, feed_in}
@@ -10,7 +10,6 @@ use Rattle.fives.specs.declared.Tally.{Tally}
 use Rattle.fives.specs.Replay.{five, capped_five}
 use Rattle.fives.specs.Count.{counts, no_pairs}
 use Rattle.door.specs.declared.tally.Reader.{Reader}
-use Rattle.door.specs.declared.tally.Turn.{Turn}
 
 -- what the replay of a trace answers
 unfoldable pub replayed : List ℕ → Five
@@ -19,12 +18,6 @@ replayed bytes = capped_five (five longest_record reply_of bytes)
 -- what a byte does
 abbrev pub step : Feed Tally → ℕ → Feed Tally
 step = stepped longest_record (counts reply_of)
-
--- a turn fed some bytes of a part
-pub record Turned (held : List ℕ) (rest : ℕ) (tally : Tally) (part held' : List ℕ) (r : Turn) : Type 0 where
-  pub some : 0 < r.bytes
-  pub within : r.bytes ≤ length part
-  pub fed_is : feed_in held' r.rest r.tally ≡ fed step (feed_in held rest tally) (take r.bytes part)
 
 -- what a reader holds, and the reader that holds it and nothing else
 abbrev pub feed_of : Reader → Feed Tally

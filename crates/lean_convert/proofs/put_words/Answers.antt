@@ -4,5 +4,5 @@ use Rattle.lean_convert.proofs.put_words.Goals as goal
 
 pub returns : goal.returns
 returns c =
-    words_are c.args.converter c.args.taken c.args.count c.flag-refused.result
-    c.refused.result c.refused.ensures c.flag-refused.ensures
+    words_are c.args.converter c.args.taken c.args.count c.from-refused.result
+    c.refused.result c.refused.ensures c.from-refused.ensures

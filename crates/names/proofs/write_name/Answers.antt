@@ -1,21 +1,11 @@
--- `names::write_name` meets its contract: each name stands in nine bytes of its own, and past the last there is none. Assumes nothing.
-use borrow.Author.Rules.{rules}
+-- `names::write_name` meets its contract: no name has more than nine bytes. Assumes nothing.
 use native.Mathlib.Omega.{arith}
-use lib.ListN.{length-take}
-use Rattle.names.proofs.Naming.{nameless, past-names, widths-small, named_by}
+use Rattle.spell.proofs.Writing.{written-within}
+use Rattle.names.proofs.Naming.{name_small}
 use Rattle.names.proofs.write_name.Goals as goal
 
-pub returns-then-n-ge12 : goal.returns-then-n-ge12
-returns-then-n-ge12 c = nameless _ _ _ (past-names _ (omega arith))
-
-pub overflow_add-from : goal.overflow_add-from
-overflow_add-from c = let w = widths-small c.args.n in search rules
-
-pub slice_bounds-write_bytes-end : goal.slice_bounds-write_bytes-end
-slice_bounds-write_bytes-end c = let w = widths-small c.args.n in omega arith
-
 pub write_bytes-requires : goal.write_bytes-requires
-write_bytes-requires c = let w = widths-small c.args.n in simp length-take (omega arith)
+write_bytes-requires c = rw c.name_of.ensures (omega (arith, name_small c.args.n))
 
 pub returns : goal.returns
-returns c = named_by _ _ _ _ _ c.write_bytes.ensures
+returns c = rw c.name_of.ensures at (written-within _ _ _ _ _ _ c.write_bytes.ensures 9 (rw c.name_of.ensures (name_small c.args.n)))

@@ -1,87 +1,85 @@
--- A part that is taken turn by turn, parts one after the other, and all of them: what was told, and written, is that of the whole.
+-- A part, parts one after the other, and all of them: what was told, and written, is that of the whole.
 -- Assumes nothing.
 use mathlib.Core.Path.{◌≡◌, sym, ap, ◌∙◌}
-use mathlib.Core.List.{List, [], ◌++◌, append-nil, append_assoc}
-use Prim.Native.Nat.{ℕ, ◌+◌, ◌-◌, ◌≤◌, ◌<◌}
+use mathlib.Core.List.{List, [], ◌∷◌, ◌++◌, append-nil, append_assoc}
+use Prim.Native.Nat.{ℕ}
 use native.Mathlib.Omega.{arith}
-use lib.ListN.{length, take, drop}
+use lib.ListN.{length, take}
 use Rattle.pairs.specs.Cut.{longest_record}
 use Rattle.door.specs.Contract.{reply_of}
-use Rattle.feed.specs.declared.Handed.{Handed}
-use Rattle.feed.specs.Feed.{Feed, blank, feed_in, Hands, given, zeros, held_room}
-use Rattle.feed.specs.Parts.{fed}
-use Rattle.feed.proofs.Parts.{fed-more, Passed, none_passed, all-passed}
-use Rattle.feed.proofs.Reading.{turn-passed, took}
+use Rattle.std.specs.List.{FoldsTo}
+use Rattle.pairs.specs.Cut.{Pair}
+use Rattle.feed.specs.Feed.{Feed, blank, folded, zeros, held_room}
+use Rattle.feed.specs.Parts.{fed, uncut}
+use Rattle.feed.specs.Takes.{Takes as TakesPairs}
+use Rattle.feed.proofs.Parts.{fed-more}
+use Rattle.feed.proofs.Reading.{took}
+use Rattle.feed.proofs.Taking.{feeds}
+use Rattle.reading.specs.Parts.{Reads as ReadsParts}
 use Rattle.streams.specs.declared.Stream.{Stream}
-use Rattle.streams.specs.Stream.{through-none, through-more}
 use Rattle.night.specs.declared.listing.State.{State}
 use Rattle.night.specs.declared.listing.Reader.{Reader}
 use Rattle.night.specs.listing.Tale.{Tale, untold, tells, tale_of, closing, written}
 use Rattle.night.specs.listing.Contract.{tale_in, feed_with, step, Sends, Adds, Takes, Reads, Lists}
 use Rattle.night.proofs.listing.Telling.{sends_none, sends_more}
 
--- ---- a part, turn by turn: the bytes before place i were taken
-
-pub record Going (wanted : ℕ) (part held₀ : List ℕ) (rest₀ : ℕ) (s₀ : State) (held : List ℕ) (rest : ℕ) (s : State) (i : ℕ) : Type 0 where
-  pub more : List ℕ
-  pub passed : (text : List ℕ)
-      → Passed (step wanted) (feed_in held₀ rest₀ (tale_in s₀ text)) part (feed_in held rest (tale_in s (text ++ more))) i
-  pub sent : Sends s₀.out more s.out
-
-module _ (wanted : ℕ) (part held₀ : List ℕ) (rest₀ : ℕ) (s₀ : State) where
-  pub going-none : Going wanted part held₀ rest₀ s₀ held₀ rest₀ s₀ 0
-  going-none = record { more = []; passed = λ text. rw append-nil (none_passed part); sent = sends_none s₀.out }
-
-  module _ {held : List ℕ} {rest : ℕ} {s : State} {i : ℕ} (g : Going wanted part held₀ rest₀ s₀ held rest s i) where
-    module _ (l : i < length part) {held' : List ℕ} {r : Handed}
-        (h : Hands longest_record held rest (take (length part - i) (drop i part)) held' r) where
-      turned : (text : List ℕ) → (0 < r.bytes) × Passed (step wanted) (feed_in held₀ rest₀ (tale_in s₀ text)) part
-          (feed_in held' r.rest (given (tells reply_of wanted) (tale_in s (text ++ g.more)) held' r.size)) (i + r.bytes)
-      turned text = turn-passed (omega arith) (tells reply_of wanted) held rest (tale_in s (text ++ g.more)) (g.passed text) l h
-
-      -- a turn goes on, and not past the part
-      pub going_on : (0 < r.bytes) × (i + r.bytes ≤ length part)
-      going_on = ((turned []).0, (turned []).1.within)
-
-      pub going_more : {s' : State} → Adds (λ (t : Tale). given (tells reply_of wanted) t held' r.size) s s'
-          → Going wanted part held₀ rest₀ s₀ held' r.rest s' (i + r.bytes)
-      going_more {s'} a = record {
-        more = g.more ++ a.more;
-        passed = λ text. rw (← append_assoc text g.more a.more, ← a.after (text ++ g.more)) (turned text).1;
-        sent = sends_more s₀.out g.more s.out a.more s'.out g.sent a.sent;
-      }
-
-    pub going-all : length part ≤ i
-        → Takes wanted (record { held = held₀; rest = rest₀; state = s₀ }) part (record { held = held; rest = rest; state = s })
-    going-all l = record { more = g.more; after = λ text. all-passed (g.passed text) l; sent = g.sent }
-
--- ---- parts one after the other
+-- ---- a part: its pairs one after the other
 
 module _ (wanted : ℕ) where
-  pub reads_none : (i : Stream) (r : Reader) → Reads wanted i r i r
-  unfolding fed
-  reads_none i r = record {
-    bytes = [];
-    went = through-none i;
-    takes = record { more = []; after = λ text. rw append-nil; sent = sends_none r.state.out };
-  }
-
-  pub reads_more : {i i' i'' : Stream} {r r' r'' : Reader} → Reads wanted i r i' r' → Reads wanted i' r' i'' r'' → Reads wanted i r i'' r''
-  reads_more {i} {i'} {i''} {r} {r'} {r''} p q =
-      let a = p.takes in
-      let b = q.takes in
-      record {
-        bytes = p.bytes ++ q.bytes;
-        went = through-more i p.bytes i' q.bytes i'' p.went q.went;
-        takes = record {
+  module _ (adds : State → Pair → State → Type 0)
+      (by : (s : State) (pair : Pair) (s' : State) → adds s pair s' → Adds (λ (t : Tale). tells reply_of wanted t pair) s s') where
+    adds-all : (s : State) (pairs : List Pair) (s' : State) → FoldsTo adds s pairs s'
+        → Adds (λ (t : Tale). folded (tells reply_of wanted) t pairs) s s'
+    unfolding folded
+    adds-all s [] s' e = rw (← e) (record { more = []; after = λ text. rw append-nil; sent = sends_none s.out })
+    adds-all s (pair ∷ pairs) s' f =
+        let a = by s pair f.0 f.1 in
+        let b = adds-all f.0 pairs s' f.2 in
+        record {
           more = a.more ++ b.more;
           after = λ text.
-              ap (feed_with r'') (sym (append_assoc text a.more b.more)) ∙ b.after (text ++ a.more)
-              ∙ ap (λ (s : Feed Tale). fed (step wanted) s q.bytes) (a.after text)
-              ∙ sym (fed-more (step wanted) (feed_with r text) p.bytes q.bytes);
-          sent = sends_more r.state.out a.more r'.state.out b.more r''.state.out a.sent b.sent;
-        };
-      }
+              ap (λ (t : Tale). folded (tells reply_of wanted) t pairs) (a.after text)
+              ∙ b.after (text ++ a.more)
+              ∙ ap (tale_in s') (append_assoc text a.more b.more);
+          sent = sends_more s.out a.more f.0.out b.more s'.out a.sent b.sent;
+        }
+
+    pub taken : {held : List ℕ} {rest : ℕ} {s : State} {part held' : List ℕ} {rest' : ℕ} {s' : State} → length held ≡ held_room
+        → TakesPairs adds held rest s part held' rest' s'
+        → Takes wanted (record { held = held; rest = rest; state = s }) part (record { held = held'; rest = rest'; state = s' })
+    taken {held} {rest} {s} {part} {held'} {rest'} {s'} room t =
+        let a = adds-all s _ s' t.added in
+        record {
+          more = a.more;
+          after = λ text. rw (← a.after text) (feeds (tells reply_of wanted) adds room t (tale_in s text));
+          sent = a.sent;
+        }
+
+  -- ---- parts one after the other
+
+  takes_none : (r : Reader) → Takes wanted r [] r
+  unfolding fed
+  takes_none r = record { more = []; after = λ text. rw append-nil; sent = sends_none r.state.out }
+
+  takes_more : (r r' r'' : Reader) (x y : List ℕ) → Takes wanted r x r' → Takes wanted r' y r'' → Takes wanted r (x ++ y) r''
+  takes_more r r' r'' x y a b = record {
+    more = a.more ++ b.more;
+    after = λ text.
+        ap (feed_with r'') (sym (append_assoc text a.more b.more)) ∙ b.after (text ++ a.more)
+        ∙ ap (λ (s : Feed Tale). fed (step wanted) s y) (a.after text)
+        ∙ sym (fed-more (step wanted) (feed_with r text) x y);
+    sent = sends_more r.state.out a.more r'.state.out b.more r''.state.out a.sent b.sent;
+  }
+
+  module _ (takes : Reader → List ℕ → Reader → Type 0) (by : (r : Reader) (part : List ℕ) (r' : Reader) → takes r part r' → Takes wanted r part r')
+    where
+      takes-all : (r : Reader) (parts : List (List ℕ)) (r' : Reader) → FoldsTo takes r parts r' → Takes wanted r (uncut parts) r'
+      unfolding uncut
+      takes-all r [] r' e = rw (← e) (takes_none r)
+      takes-all r (part ∷ parts) r' f = takes_more r f.0 r' part (uncut parts) (by r part f.0 f.1) (takes-all f.0 parts r' f.2)
+
+      pub reads : {i : Stream} {r : Reader} {i' : Stream} {r' : Reader} → ReadsParts takes i r i' r' → Reads wanted i r i' r'
+      reads {r = r} {r' = r'} p = record { bytes = uncut p.parts; went = p.went; takes = takes-all r p.parts r' p.taken }
 
 -- ---- all of them, from nothing
 

@@ -1,8 +1,8 @@
 -- What is told of a pair, and of the end: one law for each way through the definitions; and what a pair adds. A line
 -- and a page are never empty: where nothing is told, the output stays. Assumes nothing.
-use mathlib.Core.Path.{◌≡◌, refl, sym, ap, ◌∙◌}
+use mathlib.Core.Path.{◌≡◌, refl, ap, ◌∙◌}
 use mathlib.Core.Bool.{Bool, true, false, cond}
-use mathlib.Core.List.{List, [], ◌∷◌, ◌++◌, append-nil}
+use mathlib.Core.List.{List, [], ◌∷◌, ◌++◌}
 use Prim.Native.Nat.{ℕ, ◌+◌, ◌<◌}
 use native.Mathlib.Omega.{arith}
 use lib.ListN.{length, take, length-take}
@@ -11,8 +11,7 @@ use borrow.Author.Tests.{eq-eqb, ne_eqb}
 use Rattle.wire.specs.Start.{length_field, is_length, record_in, behind}
 use Rattle.pairs.specs.Cut.{longest_record, pair_in}
 use Rattle.door.specs.Contract.{reply_of}
-use Rattle.feed.specs.Feed.{capped, given}
-use Rattle.feed.proofs.Reading.{given-none, given_pair}
+use Rattle.feed.specs.Feed.{capped}
 use Rattle.fives.specs.Replay.{agrees}
 use Rattle.page.specs.Page.{counted, Puts}
 use Rattle.page.proofs.Putting.{page-read}
@@ -22,8 +21,8 @@ use Rattle.shown.specs.Page.{shown_page}
 use Rattle.streams.specs.declared.Stream.{Stream}
 use Rattle.streams.specs.Stream.{Wrote, wrote_none, wrote-more}
 use Rattle.night.specs.declared.listing.State.{State}
-use Rattle.night.specs.listing.Tale.{Tale, page_room, on_page, asked, told_of, differing, tells, closing}
-use Rattle.night.specs.listing.Contract.{tale_in, Sends, Adds}
+use Rattle.night.specs.listing.Tale.{Tale, page_room, on_page, told_of, differing, tells, closing}
+use Rattle.night.specs.listing.Contract.{Sends, Adds}
 
 -- ---- nothing was told; and more, one after the other
 
@@ -110,21 +109,6 @@ module _ (wanted : ℕ) (alike : Bool) (number offset : ℕ) (request reply toda
   unfolding told_of
   told-page out' z e w = rw (ne_eqb wanted 0 z, eq-eqb wanted number e) w
 
--- ---- which of those that differ are counted
-
-module _ (wanted : ℕ) (alike : Bool) (number n m : ℕ) (d : alike ≡ false) where
-  pub counts_each : wanted ≡ 0 → m ≡ capped (n + 1) → m ≡ differing wanted alike number n
-  unfolding differing asked
-  counts_each z e = rw (d, eq-eqb wanted 0 z) e
-
-  pub counts-it : (wanted ≡ 0 → ⊥) → wanted ≡ number → m ≡ capped (n + 1) → m ≡ differing wanted alike number n
-  unfolding differing asked
-  counts-it z i e = rw (d, ne_eqb wanted 0 z, eq-eqb wanted number i) e
-
-  pub counts-no-other : (wanted ≡ 0 → ⊥) → (wanted ≡ number → ⊥) → m ≡ n → m ≡ differing wanted alike number n
-  unfolding differing asked
-  counts-no-other z o e = rw (d, ne_eqb wanted 0 z, ne_eqb wanted number o) e
-
 -- ---- and of the end
 
 module _ (wanted : ℕ) (failed : Bool) (offset rest : ℕ) (kept : List ℕ) (out : Stream) where
@@ -155,19 +139,3 @@ adds-asked wanted s bytes request reply today alike number offset differ out q p
   after = λ text. rw (i, o, a, n, d, q, p);
   sent = w;
 }
-
-module _ (wanted : ℕ) (s : State) (held : List ℕ) (size : ℕ) where
-  pub adds_none : size ≡ 0 → Adds (λ (t : Tale). given (tells reply_of wanted) t held size) s s
-  adds_none z = record {
-    more = [];
-    after = λ text. rw append-nil (sym (given-none (tells reply_of wanted) (tale_in s text) held size z));
-    sent = sends_none s.out;
-  }
-
-  pub adds-pair : (s' : State) → (size ≡ 0 → ⊥) → Adds (λ (t : Tale). tells reply_of wanted t (pair_in (take size held))) s s'
-      → Adds (λ (t : Tale). given (tells reply_of wanted) t held size) s s'
-  adds-pair s' some a = record {
-    more = a.more;
-    after = λ text. sym (given_pair (tells reply_of wanted) (tale_in s text) held size some refl) ∙ a.after text;
-    sent = a.sent;
-  }

@@ -6,5 +6,5 @@ use Rattle.page.proofs.digit.Goals as goal
 pub returns-then-d-lt10 : goal.returns-then-d-lt10
 returns-then-d-lt10 c = low_digit _ (omega arith)
 
-pub returns : goal.returns
-returns c = high_digit _ (omega arith)
+pub returns-else-d-lt10 : goal.returns-else-d-lt10
+returns-else-d-lt10 c = high_digit _ (omega arith)

@@ -18,16 +18,24 @@ low_part zero low n e few = omega arith
 low_part (suc high) low n e few = absurd (omega arith)
 
 pub minus-requires : goal.minus-requires
-minus-requires c = omega (arith, (let h : c.size_of-size.result.low ≡ nat_abs ((let h : ℤ = two_words c.args.n.high.0 c.args.n.low in h)) = low_part _ _ _ c.size_of-size.ensures.0 c.requires in h), c.requires)
+minus-requires c =
+    let low : c.size_of-size.result.low ≡ nat_abs (two_words c.args.n.high.0 c.args.n.low) = low_part _ _ _ c.size_of-size.ensures.0 c.requires in
+    let few = c.requires in
+    omega arith
 
 pub returns-then-negative : goal.returns-then-negative
 returns-then-negative c =
-    c.minus.ensures ∙ ap (λ x. neg_ℤ (pos x)) ((let h : c.size_of-size.result.low ≡ nat_abs ((let h : ℤ = two_words c.args.n.high.0 c.args.n.low in h)) = low_part _ _ _ c.size_of-size.ensures.0 c.requires in h))
-    ∙ sym (side-below _ _ _ c.size_of-size.ensures.2 (sym c.negative.ensures ∙ c.if-negative.true)) ∙ side-self ((let h : ℤ = two_words c.args.n.high.0 c.args.n.low in h))
+    let low : c.size_of-size.result.low ≡ nat_abs (two_words c.args.n.high.0 c.args.n.low) = low_part _ _ _ c.size_of-size.ensures.0 c.requires in
+    c.minus.ensures ∙ ap (λ x. neg_ℤ (pos x)) low
+    ∙ sym (side-below _ _ _ c.size_of-size.ensures.2 (sym c.negative.ensures ∙ c.if-negative.true)) ∙ side-self (two_words c.args.n.high.0 c.args.n.low)
 
 pub plus-requires : goal.plus-requires
-plus-requires c = omega (arith, (let h : c.size_of-size.result.low ≡ nat_abs ((let h : ℤ = two_words c.args.n.high.0 c.args.n.low in h)) = low_part _ _ _ c.size_of-size.ensures.0 c.requires in h), c.requires)
+plus-requires c =
+    let low : c.size_of-size.result.low ≡ nat_abs (two_words c.args.n.high.0 c.args.n.low) = low_part _ _ _ c.size_of-size.ensures.0 c.requires in
+    let few = c.requires in
+    omega arith
 
 pub returns : goal.returns
 returns c =
-    c.plus.ensures ∙ ap pos ((let h : c.size_of-size.result.low ≡ nat_abs ((let h : ℤ = two_words c.args.n.high.0 c.args.n.low in h)) = low_part _ _ _ c.size_of-size.ensures.0 c.requires in h)) ∙ sym (side-above _ _ _ (sym c.negative.ensures ∙ c.if-negative.false)) ∙ side-self ((let h : ℤ = two_words c.args.n.high.0 c.args.n.low in h))
+    let low : c.size_of-size.result.low ≡ nat_abs (two_words c.args.n.high.0 c.args.n.low) = low_part _ _ _ c.size_of-size.ensures.0 c.requires in
+    c.plus.ensures ∙ ap pos low ∙ sym (side-above _ _ _ (sym c.negative.ensures ∙ c.if-negative.false)) ∙ side-self (two_words c.args.n.high.0 c.args.n.low)

@@ -4,18 +4,17 @@ use mathlib.Core.Bool.{true, false, false≢true}
 use mathlib.Core.List.{List, [], ◌∷◌, ◌++◌}
 use Prim.Native.Nat.{ℕ, ◌+◌, ◌-◌, ◌/◌, ◌%◌, ◌≤◌, ◌<◌}
 use native.Mathlib.Omega.{arith}
-use lib.Dec.{leb}
 use lib.ListN.{length, take, drop, get_or, set, length-append, length-drop, length-take}
 use lib.Seq.{take_all}
-use borrow.Author.Tests.{lt-ltb, le-ltb, lt-leb, le-leb, eq-eqb, ne_eqb}
-use Rattle.wire.specs.Start.{shortest, length_field, starts_record, record_in, behind}
+use borrow.Author.Tests.{lt-ltb, le-ltb, eq-eqb, ne_eqb}
+use Rattle.wire.specs.Start.{shortest, record_in, behind}
 use Rattle.pairs.specs.Cut.{starts_pair, pair_in}
 use Rattle.pairs.proofs.Cutting.{whole_pair}
 use Rattle.feed.specs.Feed.{capped, held_room, feed_in}
 use Rattle.feed.specs.declared.Handed.{Handed}
 use Rattle.spell.specs.Decimal.{Written, Told}
 use Rattle.spell.proofs.Writing.{written_none, written-within, told}
-use Rattle.aging.specs.Convert.{former_longest, ageless, aged, aged_pair, changes, starts_long, ends_long}
+use Rattle.aging.specs.Convert.{former_longest, ageless, aged, aged_pair, changes}
 use Rattle.renewal.specs.converter.Put.{counts, aged_bytes, last_out, turn_out}
 use Rattle.aging.proofs.Records.{IsRecord, record_of_lem, Request, other, without, request-is}
 
@@ -114,9 +113,6 @@ counts-none n pair e = rw e
 
 -- ---- at the end
 
-pub kept-all : (held : List ℕ) (rest : ℕ) → length held ≤ rest → held ≡ take rest held
-kept-all held rest l = sym (take_all rest held l)
-
 module _ (held : List ℕ) (rest changed : ℕ) where
   pub last_none : held_room ≤ rest → last_out (feed_in held rest changed) ≡ []
   unfolding last_out
@@ -132,28 +128,3 @@ module _ (held : List ℕ) (rest changed : ℕ) where
   pub last-put : {kept out out' : List ℕ} {count : ℕ} → rest < held_room → held_room ≤ length out → kept ≡ take rest held
       → Written (length kept) out 0 kept out' count → Told held_room (last_out (feed_in held rest changed)) out count out'
   last-put l enough e w = rw (last_some l, ← e) (told-few enough (few-kept l e) w)
-
-module _ (bytes : List ℕ) where
-  pub long-cut : length bytes < 2 → starts_long bytes ≡ false
-  unfolding starts_long
-  long-cut l = rw (lt-leb 2 (length bytes) l)
-
-  pub long-short : 2 ≤ length bytes → length_field bytes < 127 → starts_long bytes ≡ false
-  unfolding starts_long
-  long-short l m = rw (le-leb 2 (length bytes) l, lt-leb 127 (length_field bytes) m)
-
-  pub long-is : 2 ≤ length bytes → 127 ≤ length_field bytes → starts_long bytes ≡ leb (length_field bytes) 128
-  unfolding starts_long
-  long-is l m = rw (le-leb 2 (length bytes) l, le-leb 127 (length_field bytes) m)
-
-  pub ends-request : starts_long bytes ≡ true → ends_long bytes ≡ true
-  unfolding ends_long
-  ends-request e = rw e
-
-  pub ends-none : starts_long bytes ≡ false → starts_record former_longest bytes ≡ false → ends_long bytes ≡ false
-  unfolding ends_long
-  ends-none e f = rw (e, f)
-
-  pub ends-reply : starts_long bytes ≡ false → starts_record former_longest bytes ≡ true → ends_long bytes ≡ starts_long (behind bytes)
-  unfolding ends_long
-  ends-reply e f = rw (e, f)

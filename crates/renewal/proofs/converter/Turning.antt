@@ -8,6 +8,8 @@ use native.Mathlib.Numerals.{add-one}
 use native.Mathlib.Omega.{arith}
 use lib.Dec.{ltb, eqb}
 use lib.ListN.{length, take, drop, get_or, set, length-append, length-take, length-drop, length-set}
+use Rattle.std.proofs.Common.{min}
+use Rattle.std.proofs.lemmas.List.{take_min}
 use lib.Seq.{length-sets, get_or-drop, take_all, take_at, take-add, take-suc-set, length-take-le}
 use borrow.Author.Tests.{lt-ltb, le-ltb, ltb-true, ltb-false, ne_eqb, eqb-true, eqb-false}
 use Rattle.pairs.specs.Cut.{starts_pair}
@@ -240,13 +242,9 @@ module _ (converter : Converter) (part out : List ℕ) where
   unfolding front
   front-some l = rw (le-ltb _ _ l)
 
-  pub some-taken : {r : Taken} {out' : List ℕ} → out_room ≤ length out → Fills converter (take part_room part) out r out'
-      → Fills converter (front part out) out r out'
-  some-taken l f = rw (front-some l) f
-
-  pub all-taken : {r : Taken} {out' : List ℕ} → out_room ≤ length out → length part ≤ part_room → Fills converter part out r out'
-      → Fills converter (front part out) out r out'
-  all-taken l m f = rw (front-some l, take_all part_room part m) f
+  pub some-taken : {r : Taken} {out' : List ℕ} {n : ℕ} → out_room ≤ length out → n ≡ min part_room (length part)
+      → Fills converter (take n part) out r out' → Fills converter (front part out) out r out'
+  some-taken {n} l m f = rw (front-some l, ← take_min part_room part, ← m) f
 
   pub none-taken : length out < out_room → {c : Converter} → c ≡ after_part converter []
       → Fills converter (front part out) out (record { converter = c; bytes = 0; count = 0 }) out

@@ -9,7 +9,7 @@ unfolding verdict
 returns-then-refused c = rw c.if-refused.true
     (written-within _ _ _ _ _ _ c.write_bytes.ensures _ (omega arith))
 
-pub returns : goal.returns
+pub returns-else-refused : goal.returns-else-refused
 unfolding verdict
-returns c = rw c.if-refused.false
+returns-else-refused c = rw c.if-refused.false
     (written-within _ _ _ _ _ _ c.write_named.ensures _ (omega arith))

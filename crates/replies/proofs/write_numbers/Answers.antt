@@ -4,8 +4,7 @@ use mathlib.Core.List.{List}
 use Prim.Native.Nat.{ℕ, ◌+◌, ◌*◌, ◌/◌, ◌%◌, ◌≤◌, ◌<◌}
 use native.Mathlib.Omega.{arith}
 use lib.IntN.{ℤ, pos}
-use lib.ListN.{length, get_or, take, set, length-set}
-use lib.Seq.{take-length}
+use lib.ListN.{length, get_or, take, set}
 use Rattle.wire.specs.Words.{unsigned, number_bytes}
 use Rattle.replies.specs.Reply.{over}
 use Rattle.wire.proofs.Words.{numbers-next, numbers-before}
@@ -22,26 +21,9 @@ next l k bytes lent {word = word} m room e f g =
 
 pub loop-k-init : goal.loop-k-init
 unfolding number_bytes over
-loop-k-init c = (omega arith, refl, refl)
-
-pub word_of-requires : goal.word_of-requires
-word_of-requires c =
-    rw (c.units_of-n.ensures, c.travel_at.ensures) (c.requires.1.each c.loop-k.k (omega arith))
+loop-k-init c = refl
 
 pub loop-k-preserved : goal.loop-k-preserved
 loop-k-preserved c =
-    let e = c.put_word.ensures in
-    let number = c.units_of-n.ensures ∙ c.travel_at.ensures in
-    let i = c.loop-k.invariant in (
-      omega arith,
-      rw e (simp length-set i.1),
-      rw e (next _ c.loop-k.k _ _ (omega arith) (omega arith) i.2 number c.word_of.ensures.0),
-    )
-
-pub shape_of-bytes : goal.shape_of-bytes
-shape_of-bytes c = c.loop-k.invariant.1
-
-pub returns : goal.returns
-returns c =
-    let e : c.loop-k.k ≡ length c.args.numbers.now = omega arith in
-    rw (e, take-length) at c.loop-k.invariant.2
+    let number = c.units_of-number.ensures ∙ c.travel_at.ensures in
+    rw c.put_word.ensures (next _ c.loop-k.k _ _ (omega arith) (omega arith) c.loop-k.invariant number c.word_of.ensures)

@@ -3,21 +3,22 @@
 use mathlib.Core.Bool.{or-true}
 use native.Mathlib.Omega.{arith}
 use borrow.Author.Tests.{lt-ltb}
+use Rattle.std.proofs.Common.{rules}
 use Rattle.request.specs.Head.{most_degree, most_n, degree}
 use Rattle.request.specs.Refusal.{not_degree}
 use Rattle.request.proofs.Forms.{first-le, small-tensor, small-outer}
 use Rattle.request.proofs.not_degree.Goals as goal
+use Rattle.request.proofs.not_degree.Goals.{then-head-gt-MOST_DEGREE-via-then-head-gt-MOST_DEGREE, then-head-gt-MOST_DEGREE-via-else-head-gt-MOST_DEGREE+then-head-gt-MOST_N}
 
-pub returns-then-first-gt-MOST_DEGREE : goal.returns-then-first-gt-MOST_DEGREE
+pub returns-then-head-gt-MOST_DEGREE : goal.returns-then-head-gt-MOST_DEGREE
 unfolding not_degree
-returns-then-first-gt-MOST_DEGREE c = rw (lt-ltb most_degree (degree c.args.head) (omega (arith, first-le c.args.head)))
+returns-then-head-gt-MOST_DEGREE c = elim c.then-head-gt-MOST_DEGREE.branch [
+  | then-head-gt-MOST_DEGREE-via-then-head-gt-MOST_DEGREE w ↦ rw (lt-ltb most_degree (degree c.args.head) (omega (arith, first-le c.args.head)))
+  | then-head-gt-MOST_DEGREE-via-else-head-gt-MOST_DEGREE+then-head-gt-MOST_N w ↦ simp (lt-ltb most_n c.args.head.N (omega arith), or-true)
+]
 
-pub returns-then-head-gt-MOST_N : goal.returns-then-head-gt-MOST_N
-unfolding not_degree
-returns-then-head-gt-MOST_N c = simp (lt-ltb most_n c.args.head.N (omega arith), or-true)
+pub returns-in-2 : goal.returns-in-2
+returns-in-2 c = small-tensor _ c.in-2.is (omega arith) (omega arith)
 
-pub returns-then-head-eq2 : goal.returns-then-head-eq2
-returns-then-head-eq2 c = small-tensor _ c.if-head-eq2.true (omega arith) (omega arith)
-
-pub returns : goal.returns
-returns c = small-outer _ c.if-head-eq2.false (omega arith) (omega arith)
+pub returns-in_default : goal.returns-in_default
+returns-in_default c = small-outer _ (search rules) (omega arith) (omega arith)

@@ -5,11 +5,12 @@ use mathlib.Core.List.{List, [], ◌∷◌}
 use Prim.Native.Nat.{ℕ, suc, ◌+◌, ◌-◌, ◌≤◌, ◌<◌}
 use native.Mathlib.Numerals.{add-one}
 use native.Mathlib.Omega.{arith}
+use Rattle.std.specs.Prelude.{Some, None}
 use lib.ListN.{length, take, drop, length-drop, drop_of_length-le}
 use lib.Seq.{take_all, drop-cons, drop-drop, length-sets}
 use borrow.Author.Tests.{le-ltb, lt-ltb, eq-eqb, ne_eqb}
 use Rattle.pairs.specs.Cut.{longest_record, pair_size}
-use Rattle.pairs.proofs.Cutting.{nothing, front-pair}
+use Rattle.pairs.proofs.Cutting.{front-pair}
 use Rattle.spell.specs.Decimal.{Written}
 use Rattle.feed.specs.Feed.{capped}
 use Rattle.door.specs.Contract.{reply_of}
@@ -17,11 +18,11 @@ use Rattle.torn.specs.Salvage.{good}
 use Rattle.torn.specs.Lines.{skip_line}
 use Rattle.torn.specs.Window.{passes, skips_ahead, keeps_ahead, closed_line, line_after, from_after, lost_after}
 use Rattle.torn.proofs.Joining.{some_bytes}
-use Rattle.torn.proofs.Saving.{good-both, good_none}
+use Rattle.torn.proofs.Saving.{good-both}
 use Rattle.torn.proofs.Going.{keeps-stop, keeps-more}
-use Rattle.salvaging.specs.saver.Ahead.{line_room, size_kept, closing, Closes, stretch_of, Leaves}
+use Rattle.salvaging.specs.saver.Ahead.{line_room, kept_size, closing, Closes, stretch_of, Leaves}
 use Rattle.salvaging.specs.declared.saver.Place.{Place}
-use Rattle.salvaging.proofs.saver.Deciding.{good_of}
+use Rattle.salvaging.proofs.saver.Deciding.{none_good, some_good}
 
 -- the rest of a slice
 pub from-here : (w : List ℕ) (i : ℕ) → take (length w - i) (drop i w) ≡ drop i w
@@ -70,46 +71,39 @@ module _ (most : ℕ) (door : List ℕ → List ℕ) (last : Bool) (w : List ℕ
 
 -- ---- bytes that are kept
 
-size_of : (most : ℕ) (door : List ℕ → List ℕ) (w : List ℕ) → good most door w ≡ true → size_kept most door w ≡ pair_size most w
-unfolding size_kept
-size_of most door w g = rw g
-
 module _ (most : ℕ) (door : List ℕ → List ℕ) (w : List ℕ) where
   pub record Kept (i : ℕ) : Type 0 where
     pub within : i ≤ length w
     pub ahead : keeps_ahead most door w ≡ i + keeps_ahead most door (drop i w)
 
-  pub kept-none : Kept 0
-  kept-none = record { within = omega arith; ahead = omega arith }
+  pub kept_begins : Kept 0
+  kept_begins = record { within = omega arith; ahead = omega arith }
 
   module _ {i : ℕ} (k : Kept i) where
-    module _ (n : ℕ) (is : n ≡ size_kept most door (take (length w - i) (drop i w))) where
-      size_is : n ≡ size_kept most door (drop i w)
-      size_is = rw (from-here w i) at is
+    pub kept-stop : None ≡ kept_size most door (take (length w - i) (drop i w)) → i ≡ keeps_ahead most door w
+    kept-stop e =
+        let none : good most door (drop i w) ≡ false = none_good most door (drop i w) (rw (from-here w i) at e) in
+        omega (arith, k.ahead, keeps-stop most door (drop i w) none)
 
-      pub kept-stop : n ≡ 0 → i ≡ keeps_ahead most door w
-      kept-stop z =
-          let none : good most door (drop i w) ≡ false = good_of most door (drop i w) n size_is ∙ rw (eq-eqb n 0 z) in
-          omega (arith, k.ahead, keeps-stop most door (drop i w) none)
+    module _ (n : ℕ) (e : Some n ≡ kept_size most door (take (length w - i) (drop i w))) where
+      here : (good most door (drop i w) ≡ true) × (n ≡ pair_size most (drop i w))
+      here = some_good most door (drop i w) n (rw (from-here w i) at e)
 
-      pub kept_more : (n ≡ 0 → ⊥) → Kept (i + n)
-      kept_more some =
-          let g : good most door (drop i w) ≡ true = good_of most door (drop i w) n size_is ∙ rw (ne_eqb n 0 some) in
-          let size : n ≡ pair_size most (drop i w) = size_is ∙ size_of most door (drop i w) g in
-          let bytes = some_bytes most (drop i w) (good-both most door (drop i w) g).0 in
+      -- a pair has bytes
+      pub some_kept : 0 < n
+      some_kept = rw here.1 (some_bytes most (drop i w) (good-both most door (drop i w) here.0).0)
+
+      pub kept_more : Kept (i + n)
+      kept_more =
+          let size : n ≡ pair_size most (drop i w) = here.1 in
+          let bytes = some_bytes most (drop i w) (good-both most door (drop i w) here.0).0 in
           let next : drop n (drop i w) ≡ drop (i + n) w = drop-drop n i w in
           let more : keeps_ahead most door (drop i w) ≡ n + keeps_ahead most door (drop (i + n) w) =
-          rw (← next, size) (keeps-more most door (drop i w) g) in
+          rw (← next, size) (keeps-more most door (drop i w) here.0) in
           record {
             within = omega (arith, (front-pair most (drop i w) bytes).inside, length-drop i w);
             ahead = omega (arith, k.ahead, more);
           }
-
-    pub kept-all : length w ≤ i → i ≡ keeps_ahead most door w
-    kept-all l =
-        let empty = keeps-stop most door [] (good_none most door [] (nothing most)) in
-        let none : keeps_ahead most door (drop i w) ≡ 0 = rw (drop_of_length-le w l) empty in
-        omega (arith, k.ahead)
 
 -- ---- the line
 

@@ -1,36 +1,22 @@
 -- `salvaging::settle` meets its contract: one stretch after the other. Assumes nothing.
-use mathlib.Core.Path.{refl}
-use Prim.Native.Nat.{◌-◌}
 use native.Mathlib.Omega.{arith}
 use Rattle.salvaging.proofs.Streaming.{settles-none, settles-more, rests-here, rests-over}
 use Rattle.salvaging.proofs.settle.Goals as goal
 
 pub loop-at-init : goal.loop-at-init
-loop-at-init c = (refl, settles-none _ _ _)
+loop-at-init c = settles-none _ _ _
 
 pub returns-then-next-eq0 : goal.returns-then-next-eq0
-returns-then-next-eq0 c = (
-  c.loop-at.invariant.1,
-  rests-here _ _ c.loop-at.invariant.1 (c.step-next.ensures.1 c.if-next-eq0.true),
-)
+returns-then-next-eq0 c = (c.loop-at.invariant, rests-here _ _ c.loop-at.invariant (c.step-next.ensures.1 c.if-next-eq0.true))
 
 pub overflow_add-at : goal.overflow_add-at
-overflow_add-at c = omega (
-  arith,
-  (settles-more _ _ c.loop-at.invariant.1 c.step-next.ensures.0).within,
-)
+overflow_add-at c = omega (arith, (settles-more _ _ c.loop-at.invariant c.step-next.ensures.0).within)
 
 pub loop-at-smaller : goal.loop-at-smaller
-loop-at-smaller c = omega (
-  arith,
-  (settles-more _ _ c.loop-at.invariant.1 c.step-next.ensures.0).within,
-)
+loop-at-smaller c = omega (arith, (settles-more _ _ c.loop-at.invariant c.step-next.ensures.0).within)
 
 pub loop-at-preserved : goal.loop-at-preserved
-loop-at-preserved c = (
-  omega arith,
-  settles-more _ _ c.loop-at.invariant.1 c.step-next.ensures.0,
-)
+loop-at-preserved c = settles-more _ _ c.loop-at.invariant c.step-next.ensures.0
 
 pub returns : goal.returns
-returns c = (c.loop-at.invariant.1, rests-over _ _ c.loop-at.invariant.1 (omega arith))
+returns c = (c.loop-at.invariant, rests-over _ _ c.loop-at.invariant (omega arith))

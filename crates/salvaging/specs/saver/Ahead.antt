@@ -1,5 +1,5 @@
 -- What lies ahead in a window of a torn trace, as the library answers it with today's door. Assumes nothing.
-use Rattle.std.specs.Prelude.{◌≡◌, Bool, cond, List, [], ℕ, ◌≤◌, ltb, length, drop}
+use Rattle.std.specs.Prelude.{◌≡◌, Bool, cond, List, [], ℕ, ◌≤◌, ltb, length, drop, Option, Some, None}
 use Rattle.std.proofs.lemmas.List.Edits.{sets}
 use Rattle.pairs.specs.Cut.{longest_record, pair_size}
 use Rattle.door.specs.Contract.{reply_of}
@@ -12,9 +12,9 @@ use Rattle.salvaging.specs.declared.saver.Stretch.{Stretch}
 abbrev pub line_room : ℕ
 line_room = 47
 
--- how many bytes the pair is that is kept here
-unfoldable pub size_kept : ℕ → (List ℕ → List ℕ) → List ℕ → ℕ
-size_kept most door bytes = cond (good most door bytes) (pair_size most bytes) 0
+-- how many bytes the pair is that is kept here, if one is
+unfoldable pub kept_size : ℕ → (List ℕ → List ℕ) → List ℕ → Option ℕ
+kept_size most door bytes = cond (good most door bytes) (Some (pair_size most bytes)) None
 
 -- the line of a run that is over, at the front of a lent slice: "nothing is written and 0 is answered" where there is no room for one
 unfoldable pub closing : Place → List ℕ → List ℕ

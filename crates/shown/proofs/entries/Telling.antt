@@ -2,7 +2,8 @@
 use mathlib.Core.Path.{◌≡◌, refl, sym, ap, ◌∙◌}
 use mathlib.Core.Bool.{Bool, true, false, cond}
 use mathlib.Core.List.{List, [], ◌∷◌, ◌++◌, append_assoc, append-nil}
-use Prim.Native.Nat.{ℕ, suc, ◌+◌, ◌*◌, ◌-◌, ◌/◌, ◌≤◌, ◌<◌}
+use Prim.Native.Nat.{ℕ, suc, ◌+◌, ◌*◌, ◌-◌, ◌/◌, ◌≤◌, ◌<◌, min}
+use native.Mathlib.Decide.{dec_lt}
 use native.Mathlib.Numerals.{add-one}
 use native.Mathlib.Omega.{arith}
 use lib.Dec.{eqb, leb}
@@ -32,21 +33,21 @@ pub alike-none : (a b : List ℕ) → Alike a b 0
 alike-none a b = record { upto = omega arith; so_far = omega arith }
 
 module _ (a b : List ℕ) (i : ℕ) (w : Alike a b i) where
-  -- the one has ended, or the other
-  pub ended : length a ≤ i → i ≡ first_difference a b
+  -- the shorter has ended
+  pub ended : min (length a) (length b) ≤ i → i ≡ first_difference a b
   unfolding first_difference
-  ended l =
-      let none : drop i a ≡ [] = drop_of_length-le a l in
-      let all : first_difference a b ≡ i + 0 = w.so_far ∙ ap (λ (r : List ℕ). i + first_difference r (drop i b)) none in
-      omega arith
-
-  pub other-ended : i < length a → length b ≤ i → i ≡ first_difference a b
-  unfolding first_difference
-  other-ended k l =
-      let some : drop i a ≡ get_or a i 0 ∷ drop (suc i) a = drop-cons a i 0 k in
-      let none : drop i b ≡ [] = drop_of_length-le b l in
-      let all : first_difference a b ≡ i + 0 = rw (some, none) at w.so_far in
-      omega arith
+  ended l = go (dec_lt i (length a))
+    where
+      go : Dec (i < length a) → i ≡ first_difference a b
+      go (no h) =
+          let none : drop i a ≡ [] = drop_of_length-le a (omega arith) in
+          let all : first_difference a b ≡ i + 0 = w.so_far ∙ ap (λ (r : List ℕ). i + first_difference r (drop i b)) none in
+          omega arith
+      go (yes h) =
+          let some : drop i a ≡ get_or a i 0 ∷ drop (suc i) a = drop-cons a i 0 h in
+          let none : drop i b ≡ [] = drop_of_length-le b (omega arith) in
+          let all : first_difference a b ≡ i + 0 = rw (some, none) at w.so_far in
+          omega arith
 
   module _ (k : i < length a) (l : i < length b) where
     here : first_difference (drop i a) (drop i b)
@@ -54,15 +55,15 @@ module _ (a b : List ℕ) (i : ℕ) (w : Alike a b i) where
     unfolding first_difference
     here = rw (drop-cons a i 0 k, drop-cons b i 0 l)
 
-    pub differ-here : eqb (get_or a i 0) (get_or b i 0) ≡ false → i ≡ first_difference a b
+    pub differ-here : (get_or a i 0 ≡ get_or b i 0 → ⊥) → i ≡ first_difference a b
     differ-here e =
-        let none : first_difference (drop i a) (drop i b) ≡ 0 = here ∙ rw e in
+        let none : first_difference (drop i a) (drop i b) ≡ 0 = here ∙ rw (ne_eqb _ _ e) in
         omega (arith, w.so_far)
 
-    pub alike-more : eqb (get_or a i 0) (get_or b i 0) ≡ true → Alike a b (i + 1)
+    pub alike-more : get_or a i 0 ≡ get_or b i 0 → Alike a b (i + 1)
     alike-more e =
         let more : first_difference (drop i a) (drop i b) ≡ suc (first_difference (drop (suc i) a) (drop (suc i) b)) =
-        here ∙ rw e in
+        here ∙ rw (eq-eqb _ _ e) in
         record { upto = omega arith; so_far = rw (add-one i) (omega (arith, w.so_far)) }
 
 -- ---- what was asked, and what differs: the text of each form

@@ -10,7 +10,7 @@ ghost use Rattle.shown.specs.entries.Text.{endings};
 ghost use Rattle.shown.specs.entries.Ending.{cut_off, second_ending, ending_line};
 
 use crate::entries::Line;
-use page::put_form;
+use page::Paper;
 
 // Cut off behind `rest` bytes.
 fn cut(offset: u64, rest: u64, kept: &[u8]) -> Line
@@ -23,13 +23,11 @@ fn cut(offset: u64, rest: u64, kept: &[u8]) -> Line
     }
 }
 
+#[tactic(auto, unfolding(wire::specs::Start::is_length))]
 fn is_length(n: u64) -> bool
     ensures { result ≡ is_length longest_record n }
 {
-    if n < 8 {
-        return false;
-    }
-    n <= pairs::LONGEST as u64
+    8 <= n && n <= pairs::LONGEST as u64
 }
 
 // Where the second record begins: behind the first.
@@ -86,14 +84,14 @@ pub fn put_ending(offset: u64, rest: u64, kept: &[u8], page: &mut [u8]) -> usize
     ensures { Puts page.old 0 (ending_line offset rest kept.now) page.new result }
 {
     let line = ending(offset, rest, kept);
-    put_form(
+    let mut paper = Paper { bytes: page, at: 0 };
+    paper.put_form(
         line.form,
         b"the trace ends at byte !A\n;cut off at byte !1, in the pair that begins at byte !A\n;length !1 at byte !A\n",
         kept,
         kept,
         line.n,
         line.m,
-        page,
-        0,
-    )
+    );
+    paper.at
 }

@@ -1,20 +1,21 @@
 // The line of a pair whose replies differ: where it is, what was asked, and what differs first.
 ghost use Rattle.std.specs.Prelude.{◌≡◌, eqb, get_or, ◌++◌};
 ghost use Rattle.page.specs.Page.{Puts};
+ghost use Rattle.page.specs.Paper.{Adds};
 ghost use Rattle.page.specs.Form.{formed};
 ghost use Rattle.shown.specs.entries.Text.{newline, changes};
 ghost use Rattle.shown.specs.entries.Entry.{title_of, first_difference, behind_change, what_differs, entry_line};
 
 use crate::entries::Line;
-use page::put_form;
+use page::Paper;
 use wire::{byte_at, word_at};
 
 // `pair N at byte M`.
-pub fn put_title(number: u64, offset: u64, page: &mut [u8], at: usize) -> usize
-    ensures { Puts page.old at (title_of number offset) page.new result }
+pub fn put_title(number: u64, offset: u64, paper: &mut Paper)
+    ensures { Adds paper.old (title_of number offset) paper.new }
 {
     let form = b"pair !1 at byte !A";
-    put_form(0, form, form, form, number, offset, page, at)
+    paper.put_form(0, form, form, form, number, offset);
 }
 
 // Whether byte i of two records is the same.
@@ -28,17 +29,13 @@ fn is_alike(a: &[u8], b: &[u8], i: usize) -> bool
 pub fn first_difference(a: &[u8], b: &[u8]) -> usize
     ensures { result ≡ first_difference a.now b.now }
 {
-    let mut i = 0;
-    while i < a.len() {
-        if b.len() <= i {
+    let both = a.len().min(b.len());
+    for i in 0..both {
+        if a[i] != b[i] {
             return i;
         }
-        if !is_alike(a, b, i) {
-            return i;
-        }
-        i += 1;
     }
-    i
+    both
 }
 
 // Replies that differ neither in number nor in place or count: in length, before the points, or in a point.
@@ -103,20 +100,18 @@ fn change(a: &[u8], b: &[u8]) -> Line
     behind(a, b)
 }
 
-fn put_change(a: &[u8], b: &[u8], page: &mut [u8], at: usize) -> usize
-    ensures { Puts page.old at (what_differs a.now b.now ++ newline) page.new result }
+fn put_change(a: &[u8], b: &[u8], paper: &mut Paper)
+    ensures { Adds paper.old (what_differs a.now b.now ++ newline) paper.new }
 {
     let line = change(a, b);
-    put_form(
+    paper.put_form(
         line.form,
         b"kind 0x$2, today 0x$B\n;number #4, today #D\n;place #5, today #E\n;count #6, today #F\n;length &1, today &A\n;byte !1\n;point !1 is %1, today %A\n",
         a,
         b,
         line.n,
         line.m,
-        page,
-        at,
-    )
+    );
 }
 
 // The line, at the front of a page.
@@ -130,15 +125,9 @@ pub fn put_entry(
 ) -> usize
     ensures { Puts page.old 0 (entry_line number offset request.now recorded.now today.now) page.new result }
 {
-    let a = put_form(
-        0,
-        b"pair !1 at byte !A: request kind 0x$2 form #4: ",
-        request,
-        request,
-        number,
-        offset,
-        page,
-        0,
-    );
-    put_change(recorded, today, page, a)
+    let mut paper = Paper { bytes: page, at: 0 };
+    let form = b"pair !1 at byte !A: request kind 0x$2 form #4: ";
+    paper.put_form(0, form, request, request, number, offset);
+    put_change(recorded, today, &mut paper);
+    paper.at
 }

@@ -36,9 +36,6 @@ store_term-requires c =
           (c.numbers-per.result * c.loop-c.c + 1) _ c.beside-b.ensures,
     )
 
-pub overflow_add-c : goal.overflow_add-c
-overflow_add-c c = let s = (small _ c.requires.0).N_most in omega arith
-
 pub loop-c-preserved : goal.loop-c-preserved
 loop-c-preserved c =
     let s = (small _ c.requires.0).N_most in

@@ -3,11 +3,11 @@ use native.Mathlib.Omega.{arith}
 use Rattle.sums.proofs.Filling.{curve-numbers, tensor-numbers, triangle-numbers}
 use Rattle.sums.proofs.numbers.Goals as goal
 
-pub returns-then-head-eq1 : goal.returns-then-head-eq1
-returns-then-head-eq1 c = (curve-numbers _ c.if-head-eq1.true, omega arith)
+pub returns-in-1 : goal.returns-in-1
+returns-in-1 c = (curve-numbers _ c.in-1.is, omega arith)
 
-pub returns-then-head-eq2 : goal.returns-then-head-eq2
-returns-then-head-eq2 c = (tensor-numbers _ c.if-head-eq2.true, omega arith)
+pub returns-in-2 : goal.returns-in-2
+returns-in-2 c = (tensor-numbers _ c.in-2.is, omega arith)
 
-pub returns : goal.returns
-returns c = (triangle-numbers _ c.if-head-eq1.false c.if-head-eq2.false, omega arith)
+pub returns-in_default : goal.returns-in_default
+returns-in_default c = (triangle-numbers _ (omega arith) (omega arith), omega arith)

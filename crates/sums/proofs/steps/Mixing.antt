@@ -4,15 +4,11 @@ use mathlib.Core.Path.{◌≡◌, sym, ◌∙◌, ap}
 use Prim.Native.Nat.{ℕ, ◌+◌, ◌*◌, ◌-◌, ◌≤◌}
 use native.Mathlib.Nat.{mul-le-mul, le_trans, le_of_eq}
 use native.Mathlib.Omega.{arith}
-use lib.IntN.{ℤ, pos, neg_ℤ, nat_abs, ◌+ℤ◌, ◌-ℤ◌, ◌*ℤ◌}
-use Rattle.whole.proofs.Ring.{◌⊕◌, ◌⊗◌, ◌⊖◌, ring, subs, is-sub, sub-eq, pos-add, *ℤ-negℤ, ⊗-one}
+use lib.IntN.{ℤ, pos, nat_abs, ◌+ℤ◌, ◌-ℤ◌, ◌*ℤ◌}
+use Rattle.whole.proofs.Ring.{◌⊕◌, ◌⊗◌, ◌⊖◌, ring, subs, is-sub, sub-eq, pos-add}
 use Rattle.whole.proofs.Bound.{nat_abs-add, nat_abs_mul}
 use Rattle.net.proofs.Size.{shares-most, mixed-most}
 use Rattle.sums.specs.steps.Stepped.{between, among}
-
-pub less-is : (a b : ℤ) → a +ℤ b *ℤ neg_ℤ (pos 1) ≡ a -ℤ b
-unfolding ◌⊗◌
-less-is a b = ap (λ x. a +ℤ x) (*ℤ-negℤ b (pos 1) ∙ ap neg_ℤ (⊗-one b))
 
 -- ---- toward one number
 toward : (A S p q : ℤ) → A ⊗ p ⊕ S ⊗ (q ⊖ p) ≡ (A ⊖ S) ⊗ p ⊕ S ⊗ q

@@ -8,7 +8,7 @@ pub last_tri-requires : goal.last_tri-requires
 unfolding front
 last_tri-requires c =
     let p = c.requires in (
-      rw c.if-r-eq1.true at p.1,
+      rw c.if-r-eq1.true (rw c.if-r-eq1.true at p.1),
       p.2,
       rw c.travels-net.ensures
           (few-small c.args.surface.now 3 1 p.3 (omega arith)),

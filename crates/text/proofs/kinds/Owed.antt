@@ -1,21 +1,20 @@
 -- A line that is too long is of no named kind; and how the reader of a kind hands back what it owes. Assumes nothing.
 use mathlib.Core.Path.{◌≡◌, refl, sym, ap, ◌∙◌}
 use mathlib.Core.Bool.{Bool, true, false}
-use mathlib.Core.List.{List, []}
+use mathlib.Core.List.{List}
 use Prim.Native.Nat.{ℕ, ◌≤◌, ◌<◌}
+use Rattle.std.proofs.Common.{IsSome, IsNone, Ok, Err}
 use lib.Dec.{ltb}
 use lib.ListN.{length}
-use borrow.Author.Tests.{eq-eqb, ne_eqb, lt-ltb, ltb-true, ltb-false}
+use borrow.Author.Tests.{lt-ltb, ltb-true, ltb-false}
 use Rattle.text.specs.words.Words.{next}
 use Rattle.text.specs.words.Read.{Inside}
 use Rattle.text.specs.declared.words.Cursor.{Cursor}
 use Rattle.text.proofs.words.Cases.{clash}
 use Rattle.spell.specs.Decimal.{Written}
-use Rattle.spell.proofs.Writing.{written_none, written-within}
 use Rattle.text.specs.kinds.Kinds.{longest_line, overlong, begun, is_kind, opened, Spoken}
 use Rattle.text.specs.kinds.Read.{answer_most, Replies}
-use Rattle.text.specs.declared.kinds.Replied.{Replied}
-use native.Mathlib.Omega.{arith}
+use Rattle.text.specs.tell.Tell.{Quotable}
 
 module _ (line : List ℕ) where
   pub begun-overlong : longest_line < length line → begun line ≡ overlong
@@ -37,25 +36,24 @@ module _ (line : List ℕ) where
       go true e = absurd (clash (sym (overlong-unnamed (ltb-true _ _ e) name) ∙ t))
       go false e = ltb-false _ _ e
 
--- what is owed: nothing of a line that cannot be read, and else its answer line
+-- what is owed: where a line that cannot be read is wrong, and else its answer line
 module _ (s : Spoken) (line out : List ℕ) (c : Cursor) (is : c ≡ s.cursor) (inside : Inside line c) (short : c.end ≤ longest_line) where
-  pub replies-refused : (c.wrong ≡ 0 → ⊥) → Replies s line out out (record { cursor = c; end = 0 })
+  pub replies-refused : IsSome c.wrong → Replies s line out out (Err c)
   replies-refused w = record {
-    cursor = is;
-    inside = inside;
-    short = short;
-    wrote = rw (← is, ne_eqb _ _ w) (written-within 0 _ _ _ _ _ (written_none 0 out 0 [] [] 0) answer_most (omega arith));
+    inside = rw (← is) inside;
+    short = rw (← is) short;
+    said = (rw (← is) w, is, refl);
   }
 
-  pub replies-said : c.wrong ≡ 0 → (out' : List ℕ) (end : ℕ) → Written answer_most out 0 s.answer out' end
-      → Replies s line out out' (record { cursor = c; end = end })
+  pub replies-said : IsNone c.wrong → (out' : List ℕ) (end : ℕ) → Written answer_most out 0 s.answer out' end
+      → Replies s line out out' (Ok end)
   replies-said w out' end a = record {
-    cursor = is;
-    inside = inside;
-    short = short;
-    wrote = rw (eq-eqb _ 0 (ap (λ x. x.wrong) (sym is) ∙ w)) a;
+    inside = rw (← is) inside;
+    short = rw (← is) short;
+    said = (rw (← is) w, a);
   }
 
--- of a line that cannot be read nothing was written
-pub replied-nothing : (s : Spoken) (line out out' : List ℕ) (r : Replied) → Replies s line out out' r → (r.cursor.wrong ≡ 0 → ⊥) → out' ≡ out
-replied-nothing s line out out' r is w = (rw (← is.cursor, ne_eqb _ _ w) at is.wrote).holds
+-- the word at which a line is wrong can be quoted
+pub quotable : (s : Spoken) (line out out' : List ℕ) (c : Cursor) → Replies s line out out' (Err c) → Quotable line c
+quotable s line out out' c r =
+    rw r.said.1 (record { order = r.inside.order; inside = r.inside.end; short = r.short })

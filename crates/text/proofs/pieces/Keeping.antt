@@ -76,11 +76,11 @@ module _ (l : List ℕ) (n b : ℕ) (m : n ≤ length l) where
     here : n - 1 ≡ length l - 1
     here = omega arith
 
-    pub keeps-none : n ≡ 0 → Front (kept_byte (length l) (take n l) b) l l 0
+    pub keeps-none : n ≡ 0 → Front (kept_byte (length l) (take n l) b) l l n
     unfolding kept_byte is_blank
     keeps-none e = none l (omega arith)
       where
-        none : (s : List ℕ) → length s ≡ 0 → Front (kept_byte (length s) (take n s) b) s s 0
+        none : (s : List ℕ) → length s ≡ 0 → Front (kept_byte (length s) (take n s) b) s s n
         none [] q = rw e (record { ends = refl; holds = refl })
         none (x ∷ s) q = absurd (omega arith)
 
@@ -167,15 +167,15 @@ module _ (part : List ℕ) (at : ℕ) (before : List ℕ) (kept : ℕ) (line : L
       } = rw (drop-cons part i 0 l, eq-eqb _ _ n) in
       cuts _ refl (rw q) (rw q) (rw q)
 
-  pub cuts-end : length part ≤ i → Cuts part at before kept line (record { at = i; kept = end; ended = false })
+  pub cuts-end : length part ≤ i → (last : ℕ) → last ≡ i → Cuts part at before kept line (record { at = last; kept = end; ended = false })
   unfolding cut_at
-  cuts-end l =
+  cuts-end l last e =
       let q : cut_at (length before) (take end line) (drop i part) ≡ record {
         kept = take end line;
         read = 0;
         ended = false;
       } = rw (drop_of_length-le part {i = i} l) in
-      cuts _ refl (rw q (omega arith)) (rw q) (rw q)
+      cuts _ refl (rw q (omega (arith, e))) (rw q) (rw q)
 
   pub cutting-more : i < length part → (get_or part i 0 ≡ 10 → ⊥) → (line' : List ℕ) (end' : ℕ)
       → Front (kept_byte (length line) (take end line) (get_or part i 0)) line line' end' → Cutting part at before kept line' end' (i + 1)

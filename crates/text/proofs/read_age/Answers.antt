@@ -1,21 +1,29 @@
 -- `text::read_age` meets its contract: no word is left, or the next one is the age or left over. Assumes nothing.
-use borrow.Author.Tests.{eq-eqb, ne_eqb}
-use Rattle.text.specs.Line.{aged}
+use mathlib.Core.Path.{sym, ◌∙◌}
+use Rattle.text.specs.Line.{age_at, aged}
 use Rattle.text.proofs.read_age.Goals as goal
 
-pub returns-then-word-ne0 : goal.returns-then-word-ne0
+pub returns-then-is_some : goal.returns-then-is_some
 unfolding aged
-returns-then-word-ne0 c = record {
-  is = rw (← c.next-word.ensures.is, ne_eqb _ _ c.if-word-ne0.true);
+returns-then-is_some c = record {
+  is = rw (← c.next-word.ensures.is, sym c.is_some.ensures ∙ c.if-is_some.true);
   inside = c.requires;
 }
 
-pub returns : goal.returns
-unfolding aged
-returns c =
-    let found = c.age_of-found.ensures in
+pub returns-in-Ok : goal.returns-in-Ok
+unfolding aged age_at
+returns-in-Ok c =
     let word = c.next-word.ensures in
     record {
-      is = rw (← word.is, eq-eqb _ _ c.if-word-ne0.false, ← found.is);
-      inside = record { order = word.inside.order; end = word.inside.end };
+      is = rw (← word.is, sym c.is_some.ensures ∙ c.if-is_some.false, ← c.in-Ok.ensures.is);
+      inside = word.inside;
+    }
+
+pub returns-in-Err : goal.returns-in-Err
+unfolding aged age_at
+returns-in-Err c =
+    let word = c.next-word.ensures in
+    record {
+      is = rw (← word.is, sym c.is_some.ensures ∙ c.if-is_some.false, ← c.in-Err.ensures.is, c.because.ensures);
+      inside = rw c.because.ensures (record { order = word.inside.order; end = word.inside.end });
     }

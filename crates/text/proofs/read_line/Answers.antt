@@ -7,7 +7,7 @@ returns c =
     let values = c.read_list-values.ensures in
     let numbers = c.read_list-numbers.ensures in
     let rooms = c.read_rooms-lent.ensures in
-    let end = c.read_end-cursor.ensures in
+    let end = c.read_end.ensures in
     let said = said-is _ _ _ _ _ _ _ _ c.begin.ensures.is c.read_head-headed.ensures.is values.is
     numbers.is rooms.is c.read_age-aged.ensures.is end.is in
     record {

@@ -1,49 +1,50 @@
--- Laws of a word that begins with a mark: byte by byte, and that it is as long. Assumes nothing.
-use mathlib.Core.Path.{◌≡◌, refl, sym, ◌∙◌}
-use mathlib.Core.Bool.{Bool, true, false, and-false}
+-- Laws of a word that begins with a mark, as the library compares slices: byte by byte. Assumes nothing.
+use mathlib.Core.Path.{◌≡◌, refl, sym, ap, ◌∙◌}
+use mathlib.Core.Bool.{Bool, true, false, ◌&&◌, and-true, and-false}
 use mathlib.Core.List.{List, [], ◌∷◌}
-use Prim.Native.Nat.{ℕ, ◌+◌, ◌≤◌, ◌<◌}
-use native.Mathlib.Numerals.{add-one}
+use Prim.Native.Nat.{ℕ, suc}
+use lib.Dec.{eqb, eqb-suc-suc, eqb-zero-suc, eqb-suc-zero}
+use lib.ListN.{length, get_or, take}
+use Rattle.std.specs.Cmp.Lexicographic.{pointwise}
+use Rattle.std.proofs.lemmas.Bool.Decides.{nat_tests}
 use native.Mathlib.Omega.{arith}
-use lib.Dec.{eqb, ltb}
-use lib.ListN.{length, get_or, drop, drop_of_length-le}
-use lib.Seq.{drop-cons}
-use borrow.Author.Tests.{eq-eqb, ne_eqb, ltb-true, ltb-false}
 use Rattle.text.specs.words.Words.{begins}
-use Rattle.text.proofs.words.Cases.{clash}
+use Rattle.text.specs.kinds.Kinds.{is_word}
 
--- a loop over the bytes of a mark: the first i of them are the word's
-pub record Marking (mark w : List ℕ) (i : ℕ) : Type 0 where
-  pub long : length mark ≤ length w
-  pub upto : i ≤ length mark
-  pub same : begins mark w ≡ begins (drop i mark) (drop i w)
-
-module _ (mark w : List ℕ) (i : ℕ) (so_far : Marking mark w i) where
-  pub marking-more : i < length mark → get_or w i 0 ≡ get_or mark i 0 → Marking mark w (i + 1)
-  unfolding begins
-  marking-more l e = record {
-    long = so_far.long;
-    upto = omega arith;
-    same = so_far.same ∙ rw (add-one i, drop-cons mark i 0 l, drop-cons w i 0 (omega (arith, so_far.long)), eq-eqb _ _ e);
-  }
-
-  pub marking-stop : i < length mark → (get_or w i 0 ≡ get_or mark i 0 → ⊥) → false ≡ begins mark w
-  unfolding begins
-  marking-stop l n = sym (so_far.same ∙ rw (drop-cons mark i 0 l, drop-cons w i 0 (omega (arith, so_far.long)), ne_eqb _ _ n))
-
-  pub marking-end : length mark ≤ i → true ≡ begins mark w
-  unfolding begins
-  marking-end l = sym (so_far.same ∙ rw (drop_of_length-le mark {i = i} l))
-
-pub begins-short : (mark w : List ℕ) → length w < length mark → begins mark w ≡ false
+-- `strip_prefix`, and `starts_with`
+pub strips_mark : (mark w : List ℕ) → pointwise eqb (take (length mark) w) mark ≡ begins mark w
 unfolding begins
-begins-short [] w l = absurd (omega arith)
-begins-short (m ∷ mark) [] l = refl
-begins-short (m ∷ mark) (b ∷ w) l = rw (begins-short mark w (omega arith)) (and-false (eqb b m))
+strips_mark [] w = refl
+strips_mark (m ∷ mark) [] = refl
+strips_mark (m ∷ mark) (b ∷ w) = ap (λ c. eqb b m && c) (strips_mark mark w)
 
-pub begins-long : (mark w : List ℕ) → begins mark w ≡ true → length mark ≤ length w
-begins-long mark w t = go (ltb (length w) (length mark)) refl
+eqb_swapped : (a b : ℕ) → eqb a b ≡ eqb b a
+eqb_swapped a b = grind (arith, nat_tests)
+
+pub starts_mark : (mark w : List ℕ) → pointwise eqb mark (take (length mark) w) ≡ begins mark w
+unfolding begins
+starts_mark [] w = refl
+starts_mark (m ∷ mark) [] = refl
+starts_mark (m ∷ mark) (b ∷ w) = rw (eqb_swapped m b) (ap (λ c. eqb b m && c) (starts_mark mark w))
+
+-- `==`
+pub same_word : (w name : List ℕ) → pointwise eqb w name ≡ is_word w name
+unfolding is_word begins
+same_word [] [] = refl
+same_word [] (m ∷ name) = ap (λ d. d && false) (sym (eqb-zero-suc (length name)))
+same_word (b ∷ w) [] = ap (λ d. d && true) (sym (eqb-suc-zero (length w)))
+same_word (b ∷ w) (m ∷ name) = go (eqb b m) (same_word w name)
   where
-    go : (b : Bool) → ltb (length w) (length mark) ≡ b → length mark ≤ length w
-    go true e = absurd (clash (sym (begins-short mark w (ltb-true _ _ e)) ∙ t))
-    go false e = ltb-false _ _ e
+    go : (c : Bool) → pointwise eqb w name ≡ (eqb (length w) (length name) && begins name w)
+        → (c && pointwise eqb w name) ≡ (eqb (suc (length w)) (suc (length name)) && (c && begins name w))
+    go true e = e ∙ ap (λ d. d && begins name w) (sym (eqb-suc-suc (length w) (length name)))
+    go false e = sym (and-false _)
+
+-- a minus in front
+pub strips_minus : (w : List ℕ) → pointwise eqb (take 1 w) (45 ∷ []) ≡ eqb (get_or w 0 0) 45
+strips_minus [] = refl
+strips_minus (b ∷ w) = and-true (eqb b 45)
+
+pub starts_hash : (s : List ℕ) → pointwise eqb (35 ∷ []) (take 1 s) ≡ eqb (get_or s 0 0) 35
+starts_hash [] = refl
+starts_hash (b ∷ s) = and-true (eqb 35 b) ∙ eqb_swapped 35 b

@@ -1,7 +1,9 @@
 -- Blanks, words and the whole number of a word: what the bytes of a line spell, and where. Assumes nothing.
-use Rattle.std.specs.Prelude.{Bool, true, false, not, cond, ◌&&◌, ◌||◌, List, [], ◌∷◌, ℕ, zero, suc, ◌+◌, ◌-◌, ◌*◌, leb, ltb, eqb, ℤ, pos, neg_ℤ, length, get_or, take, drop}
+use Rattle.std.specs.Prelude.{Some, None, is_some, Result, Ok, Err, Bool, true, false, not, cond, ◌&&◌, ◌||◌, List, [], ◌∷◌, ℕ, zero, suc, ◌+◌, ◌-◌, ◌*◌, leb, ltb, eqb, ℤ, pos, neg_ℤ, length, get_or, take, drop}
 use Rattle.text.specs.declared.words.Cursor.{Cursor}
-use Rattle.text.specs.declared.words.Found.{Found}
+use Rattle.text.specs.declared.words.Whole.{Whole}
+use Rattle.text.specs.declared.words.Wrong.{Wrong}
+use Rattle.text.specs.declared.words.Wrong.TheVariants.{NotNumber, Outside, TooFew, LeftOver}
 
 -- a space, a tab or a carriage return
 unfoldable pub is_blank : ℕ → Bool
@@ -27,23 +29,6 @@ every p (b ∷ s) = p b && every p s
 abbrev pub past : (ℕ → Bool) → List ℕ → ℕ → ℕ
 past p line at = at + run p (drop at line)
 
--- the reasons: a word that is not a whole number, a number out of its bounds, too few words, a word left over, a line too
--- long
-abbrev pub not_number : ℕ
-not_number = 1
-
-abbrev pub outside : ℕ
-outside = 2
-
-abbrev pub too_few : ℕ
-too_few = 3
-
-abbrev pub left_over : ℕ
-left_over = 4
-
-abbrev pub too_long : ℕ
-too_long = 5
-
 -- the bytes from a place to before another
 abbrev pub between : List ℕ → ℕ → ℕ → List ℕ
 between line start end = take (end - start) (drop start line)
@@ -53,18 +38,18 @@ unfoldable pub word_after : List ℕ → ℕ → Cursor
 word_after line at =
     let start = past is_blank line at in
     let end = past is_solid line start in
-    record { start = start; end = end; wrong = cond (eqb start end) too_few 0 }
+    record { start = start; end = end; wrong = cond (eqb start end) (Some TooFew) None }
 
 -- the next word; from a cursor that is refused nothing more is read
 unfoldable pub next : List ℕ → Cursor → Cursor
-next line c = cond (eqb c.wrong 0) (word_after line c.end) c
+next line c = cond (is_some c.wrong) c (word_after line c.end)
 
 -- the bytes of a cursor's word, and the cursor with something wrong
 abbrev pub word_at : List ℕ → Cursor → List ℕ
 word_at line c = between line c.start c.end
 
-abbrev pub because : Cursor → ℕ → Cursor
-because c wrong = record { start = c.start; end = c.end; wrong = wrong }
+abbrev pub because : Cursor → Wrong → Cursor
+because c wrong = record { start = c.start; end = c.end; wrong = Some wrong }
 
 -- the number that digits spell, after those that spell n
 unfoldable pub spelled : ℕ → List ℕ → ℕ
@@ -75,21 +60,22 @@ spelled n (d ∷ ds) = spelled (n * 10 + (d - 48)) ds
 unfoldable pub signed : Bool → ℕ → ℤ
 signed minus n = cond minus (neg_ℤ (pos n)) (pos n)
 
--- what is wrong, and the number is 0 then
-abbrev pub refused : ℕ → Found
-refused reason = record { wrong = reason; minus = false; size = 0 }
-
--- the number of one or more digits, at most `bound`
-unfoldable pub digits_within : Bool → List ℕ → ℕ → Found
-digits_within minus ds bound =
-    cond (eqb (length ds) 0) (refused not_number)
+-- the number of one or more digits, at most `bound`, or what is wrong
+unfoldable pub size_within : List ℕ → ℕ → Result ℕ Wrong
+size_within ds bound =
+    cond (eqb (length ds) 0) (Err NotNumber)
     (cond (every is_digit ds)
-    (cond (ltb bound (spelled 0 ds)) (refused outside) (record { wrong = 0; minus = minus; size = spelled 0 ds }))
-    (refused not_number))
+    (cond (ltb bound (spelled 0 ds)) (Err Outside) (Ok (spelled 0 ds)))
+    (Err NotNumber))
+
+-- a number with its sign
+abbrev pub with_sign : Bool → Result ℕ Wrong → Result Whole Wrong
+with_sign minus (Ok n) = Ok (record { minus = minus; size = n })
+with_sign minus (Err e) = Err e
 
 -- the whole number of a word, `-` or nothing and then one or more digits, from −below to above
-unfoldable pub number_of : List ℕ → ℕ → ℕ → Found
-number_of w below above = cond (eqb (get_or w 0 0) 45) (digits_within true (drop 1 w) below) (digits_within false w above)
+unfoldable pub number_of : List ℕ → ℕ → ℕ → Result Whole Wrong
+number_of w below above = cond (eqb (get_or w 0 0) 45) (with_sign true (size_within (drop 1 w) below)) (with_sign false (size_within w above))
 
 -- a word that begins with a mark
 unfoldable pub begins : List ℕ → List ℕ → Bool
@@ -109,5 +95,5 @@ abbrev pub greatest_age : ℕ
 greatest_age = 65535
 
 -- the number behind the mark; a word without it is left over
-unfoldable pub age_of : List ℕ → Found
-age_of w = cond (is_age w) (digits_within false (drop 4 w) greatest_age) (refused left_over)
+unfoldable pub age_of : List ℕ → Result ℕ Wrong
+age_of w = cond (is_age w) (size_within (drop 4 w) greatest_age) (Err LeftOver)

@@ -1,27 +1,26 @@
 -- `tick::lower` meets its contract: the places passed hold what the step gives. Assumes nothing.
 use mathlib.Core.Path.{◌≡◌}
+use Prim.Native.Nat.{◌+◌}
 use native.Mathlib.Omega.{arith}
-use Rattle.tick.proofs.Array.{none-lowered, one-lowered, all-lowered}
+use Rattle.tick.proofs.Array.{same, none-lowered, one-lowered, all-lowered}
 use Rattle.tick.proofs.lower.Goals as goal
 
 pub loop-i-init : goal.loop-i-init
-loop-i-init c = (omega arith, none-lowered _ _ c.requires.2)
+loop-i-init c = none-lowered _ _ c.requires.2
 
-pub between-value-requires : goal.between-value-requires
-between-value-requires c =
-    let fine = c.loop-i.invariant.1.fine in
-    (c.requires.1, rw c.at.ensures (fine.each _), rw c.at-in-loop-i.ensures (fine.each _))
+pub between-requires : goal.between-requires
+between-requires c =
+    let each = c.loop-i.invariant.fine.each in
+    (c.requires.1, rw (same _ (each c.loop-i.i)) (each _), rw (same _ (each (c.loop-i.i + 1))) (each _))
 
 pub loop-i-preserved : goal.loop-i-preserved
-loop-i-preserved c = (
-  omega arith,
-  rw c.put.ensures
-      (one-lowered _ _ c.loop-i.values c.loop-i.i _ _ _ (omega arith) c.loop-i.invariant.1 c.at.ensures c.at-in-loop-i.ensures
-      c.between-value.ensures.0 c.between-value.ensures.1),
-)
+loop-i-preserved c =
+    let each = c.loop-i.invariant.fine.each in
+    rw (same _ c.between.ensures.1)
+    (one-lowered _ _ c.loop-i.values c.loop-i.i _ _ _ (omega arith) c.loop-i.invariant (same _ (each _)) (same _ (each _)) c.between.ensures.0
+    c.between.ensures.1)
 
 pub returns : goal.returns
 returns c =
-    let i = c.loop-i.invariant in
     let e : c.loop-i.i ≡ c.args.count = omega arith in
-    (all-lowered _ _ _ _ c.requires.0 c.requires.2 (rw e at i.1), i.1.fine)
+    (all-lowered _ _ _ _ c.requires.0 c.requires.2 (rw e at c.loop-i.invariant), c.loop-i.invariant.fine)

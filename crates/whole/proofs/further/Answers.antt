@@ -3,22 +3,8 @@ use native.Mathlib.Omega.{arith}
 use Rattle.whole.proofs.Bits.{down-written, up-written}
 use Rattle.whole.proofs.further.Goals as goal
 
-pub overflow_sub-result : goal.overflow_sub-result
-overflow_sub-result c =
-    (down-written c.args.n.0 c.args.q.0 c.args.up c.struct_told-1.given.0.1 c.struct_told-then-n-lt0-1.given.0.1 c.requires.0 c.requires.1
-    (omega arith) c.if-n-lt0.true).fits
-
-pub overflow_add-result : goal.overflow_add-result
-overflow_add-result c =
-    (up-written c.args.n.0 c.args.q.0 c.args.up c.struct_told-1.given.0.1 c.struct_told-else-n-lt0-1.given.0.1 c.requires.0 c.requires.1
-    (omega arith) c.if-n-lt0.false).fits
-
 pub returns-then-n-lt0 : goal.returns-then-n-lt0
-returns-then-n-lt0 c =
-    (down-written c.args.n.0 c.args.q.0 c.args.up c.struct_told-1.given.0.1 c.struct_told-then-n-lt0-1.given.0.1 c.requires.0 c.requires.1
-    (omega arith) c.if-n-lt0.true).is
+returns-then-n-lt0 c = (down-written c.args.n.0 c.args.q.0 c.args.up (omega arith) (omega arith) c.requires.0 c.requires.1 (omega arith) c.if-n-lt0.true).is
 
 pub returns-else-n-lt0 : goal.returns-else-n-lt0
-returns-else-n-lt0 c =
-    (up-written c.args.n.0 c.args.q.0 c.args.up c.struct_told-1.given.0.1 c.struct_told-else-n-lt0-1.given.0.1 c.requires.0 c.requires.1
-    (omega arith) c.if-n-lt0.false).is
+returns-else-n-lt0 c = (up-written c.args.n.0 c.args.q.0 c.args.up (omega arith) (omega arith) c.requires.0 c.requires.1 (omega arith) c.if-n-lt0.false).is

@@ -1,14 +1,7 @@
 -- `whole::settled` meets its contract: half or more of d takes one more, less than half none. Assumes nothing.
 use mathlib.Core.Path.{◌∙◌}
-use Rattle.whole.proofs.Halves.{room, goes-there}
+use Rattle.whole.proofs.Halves.{goes-there}
 use Rattle.whole.proofs.settled.Goals as goal
-
-pub further-requires : goal.further-requires
-further-requires c =
-    let a = c.args in
-    let p = c.requires in
-    let u = c.more.ensures in
-    (p.side, room a.n.0 a.d a.q.0 a.m p _ u.0 u.1, u.2)
 
 pub returns : goal.returns
 returns c =

@@ -7,7 +7,7 @@ returns c =
     let values = c.read_list-values.ensures in
     let numbers = c.read_list-numbers.ensures in
     let rooms = c.read_rooms-lent.ensures in
-    let end = c.read_end-cursor.ensures in
+    let end = c.read_end.ensures in
     let asked = asked_is _ _ _ _ _ _ _ _ c.number-n.ensures.is c.number-N.ensures.is values.is numbers.is
     rooms.is end.is in
     record {

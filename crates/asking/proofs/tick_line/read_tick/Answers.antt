@@ -5,7 +5,7 @@ use Rattle.asking.proofs.tick_line.read_tick.Goals as goal
 pub returns : goal.returns
 returns c =
     let listed = c.read_list-listed.ensures in
-    let end = c.read_end-cursor.ensures in
+    let end = c.read_end.ensures in
     let asked = asked_is _ _ _ _ _ listed.is c.number-moment.ensures.is end.is in
     record {
       cursor = rw asked;

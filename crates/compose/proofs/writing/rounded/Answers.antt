@@ -10,7 +10,6 @@ use Rattle.whole.proofs.Rounding.{nearest-size}
 use Rattle.pascal.specs.Entry.{last_row}
 use Rattle.pascal.proofs.Entries.{entry_in, entry-bound}
 use Rattle.net.proofs.Rounded.{choose-some}
-use Rattle.two_words.specs.Words.{two_words}
 use Rattle.compose.specs.writing.Placed.{PointAt}
 use Rattle.compose.proofs.writing.rounded.Goals as goal
 
@@ -23,15 +22,20 @@ travels n L r R p = nearest-size n (choose L R * 1024 ^ r) 4096 (mul-pos (some L
 pub rounded-requires : goal.rounded-requires
 rounded-requires c =
     let p = c.requires in
+    let d : c.binomial-d.result ≡ choose c.args.L c.args.R = c.binomial-d.ensures ∙ entry_in last_row c.args.L c.args.R p.row in
     record {
       few = p.few;
-      some = rw ((let h : c.binomial-d.result ≡ choose c.args.L c.args.R = c.binomial-d.ensures ∙ entry_in last_row c.args.L c.args.R c.requires.row in h)) (some _ _ p.here);
+      some = rw d (some _ _ p.here);
       most = rw c.binomial-d.ensures (omega (arith, entry-bound last_row c.args.L c.args.R (omega arith)));
-      within = rw ((let h : c.binomial-d.result ≡ choose c.args.L c.args.R = c.binomial-d.ensures ∙ entry_in last_row c.args.L c.args.R c.requires.row in h)) p.within;
+      within = rw d p.within;
     }
 
 pub travel_of-requires : goal.travel_of-requires
-travel_of-requires c = rw ((let h : c.rounded.result.0 ≡ nearest (two_words c.args.n.high.0 c.args.n.low) (choose c.args.L c.args.R * 1024 ^ c.args.r) = c.rounded.ensures ∙ rw ((let h : c.binomial-d.result ≡ choose c.args.L c.args.R = c.binomial-d.ensures ∙ entry_in last_row c.args.L c.args.R c.requires.row in h)) in h)) (travels _ _ _ _ c.requires)
+travel_of-requires c =
+    let d : c.binomial-d.result ≡ choose c.args.L c.args.R = c.binomial-d.ensures ∙ entry_in last_row c.args.L c.args.R c.requires.row in
+    rw (c.rounded.ensures, d) (travels _ _ _ _ c.requires)
 
 pub returns : goal.returns
-returns c = c.travel_of.ensures ∙ (let h : c.rounded.result.0 ≡ nearest (two_words c.args.n.high.0 c.args.n.low) (choose c.args.L c.args.R * 1024 ^ c.args.r) = c.rounded.ensures ∙ rw ((let h : c.binomial-d.result ≡ choose c.args.L c.args.R = c.binomial-d.ensures ∙ entry_in last_row c.args.L c.args.R c.requires.row in h)) in h)
+returns c =
+    let d : c.binomial-d.result ≡ choose c.args.L c.args.R = c.binomial-d.ensures ∙ entry_in last_row c.args.L c.args.R c.requires.row in
+    c.travel_of.ensures ∙ rw (c.rounded.ensures, d)

@@ -2,7 +2,7 @@
 use mathlib.Core.Path.{◌≡◌}
 use native.Mathlib.Omega.{arith}
 use Rattle.compose.specs.writing.Arrays.{Arrays, arrays}
-use Rattle.compose.proofs.writing.Placing.{SameLengths, wrote_none, same-lengths, still-enough, wrote-more}
+use Rattle.compose.proofs.writing.Placing.{wrote_none, same-lengths, still-enough, wrote-more}
 use Rattle.compose.proofs.writing.write_all.Goals as goal
 
 pub loop-R-init : goal.loop-R-init
@@ -10,20 +10,28 @@ loop-R-init c = (omega arith, wrote_none _ _ _ _)
 
 pub write_place-requires : goal.write_place-requires
 write_place-requires c =
-    (c.requires.0, omega arith, still-enough _ _ _ _ ((let h : Arrays = arrays c.args.high.now c.args.low.now c.args.points.now in h)) c.requires.1 _ _ c.loop-R.invariant.1 (omega arith))
+    let lent : Arrays = arrays c.args.high.now c.args.low.now c.args.points.now in
+    (c.requires.0, omega arith, still-enough _ _ _ _ lent c.requires.1 _ _ c.loop-R.invariant.1 (omega arith))
 
 pub loop-R-preserved : goal.loop-R-preserved
 loop-R-preserved c =
-    (omega arith, wrote-more _ _ _ _ ((let h : Arrays = arrays c.args.high.now c.args.low.now c.args.points.now in h)) c.requires.1 _ _ c.loop-R.invariant.1 (omega arith) _ c.write_place.ensures)
+    let lent : Arrays = arrays c.args.high.now c.args.low.now c.args.points.now in
+    (omega arith, wrote-more _ _ _ _ lent c.requires.1 _ _ c.loop-R.invariant.1 (omega arith) _ c.write_place.ensures)
 
 pub shape_of-high : goal.shape_of-high
-shape_of-high c = ((let h : SameLengths ((let h : Arrays = arrays c.args.high.now c.args.low.now c.args.points.now in h)) (arrays c.loop-R.high c.loop-R.low c.loop-R.points) = same-lengths _ _ _ _ ((let h : Arrays = arrays c.args.high.now c.args.low.now c.args.points.now in h)) c.requires.1 _ _ c.loop-R.invariant.1 c.loop-R.invariant.0 in h)).high
+shape_of-high c =
+    let lent : Arrays = arrays c.args.high.now c.args.low.now c.args.points.now in
+    (same-lengths _ _ _ _ lent c.requires.1 _ _ c.loop-R.invariant.1 c.loop-R.invariant.0).high
 
 pub shape_of-low : goal.shape_of-low
-shape_of-low c = ((let h : SameLengths ((let h : Arrays = arrays c.args.high.now c.args.low.now c.args.points.now in h)) (arrays c.loop-R.high c.loop-R.low c.loop-R.points) = same-lengths _ _ _ _ ((let h : Arrays = arrays c.args.high.now c.args.low.now c.args.points.now in h)) c.requires.1 _ _ c.loop-R.invariant.1 c.loop-R.invariant.0 in h)).low
+shape_of-low c =
+    let lent : Arrays = arrays c.args.high.now c.args.low.now c.args.points.now in
+    (same-lengths _ _ _ _ lent c.requires.1 _ _ c.loop-R.invariant.1 c.loop-R.invariant.0).low
 
 pub shape_of-points : goal.shape_of-points
-shape_of-points c = ((let h : SameLengths ((let h : Arrays = arrays c.args.high.now c.args.low.now c.args.points.now in h)) (arrays c.loop-R.high c.loop-R.low c.loop-R.points) = same-lengths _ _ _ _ ((let h : Arrays = arrays c.args.high.now c.args.low.now c.args.points.now in h)) c.requires.1 _ _ c.loop-R.invariant.1 c.loop-R.invariant.0 in h)).points
+shape_of-points c =
+    let lent : Arrays = arrays c.args.high.now c.args.low.now c.args.points.now in
+    (same-lengths _ _ _ _ lent c.requires.1 _ _ c.loop-R.invariant.1 c.loop-R.invariant.0).points
 
 pub returns : goal.returns
 returns c =

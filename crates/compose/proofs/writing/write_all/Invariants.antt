@@ -7,6 +7,3 @@ use Rattle.compose.proofs.writing.write_all.Given as goal
 abbrev pub invariant-loop-R : goal.invariant-loop-R
 invariant-loop-R l =
     (l.R ≤ l.count) × Wrote l.sums (l.count - 1) l.r l.R (arrays l.initial.high l.initial.low l.initial.points) (arrays l.high l.low l.points)
-
-abbrev pub decreases-loop-R : goal.decreases-loop-R
-decreases-loop-R l = l.count - l.R

@@ -5,4 +5,4 @@ use Rattle.day.proofs.daily.Reading.{sheet-of-all}
 use Rattle.day.proofs.daily.sheet_of.Goals as goal
 
 pub returns : goal.returns
-returns c = ap (λ (s : State). s.sheet) (rw c.new.ensures at c.take-state.ensures) ∙ sheet-of-all _
+returns c = ap (λ (s : State). s.sheet) (rw c.new.ensures at c.take.ensures) ∙ sheet-of-all _

@@ -1,5 +1,7 @@
 -- `day::sheet_lines::write_lines` meets its contract: fourteen lines, one after the other. Assumes nothing.
 use mathlib.Core.Path.{◌≡◌}
+use mir.Syntax.{w64}
+use mir.Val.{to_z, of_z}
 use lib.ListN.{length}
 use borrow.Author.Rules.{rules}
 use native.Mathlib.Omega.{arith}
@@ -37,8 +39,11 @@ pub returns : goal.returns
 unfolding sheet_lines
 returns c =
     let eleven : length c.args.sheet.refusals ≡ 11 = search rules in
+    let span = c.args.sheet.span in
+    let least : to_z w64 (of_z w64 span.least) ≡ span.least = search rules in
+    let most : to_z w64 (of_z w64 span.most) ≡ span.most = search rules in
     let a = c.write_named-a.ensures in
     let b = written_then _ _ _ _ _ _ _ _ _ _ a c.write_refusals-b.ensures in
-    let d = written_then _ _ _ _ _ _ _ _ _ _ b (rw c.least_of.ensures at c.write_point-c.ensures) in
-    let e = written_then _ _ _ _ _ _ _ _ _ _ d (rw c.most_of.ensures at c.write_point.ensures) in
+    let d = written_then _ _ _ _ _ _ _ _ _ _ b (rw least at c.write_point-c.ensures) in
+    let e = written_then _ _ _ _ _ _ _ _ _ _ d (rw most at c.write_point.ensures) in
     written-within _ _ _ _ _ _ e _ (omega (arith, eleven))

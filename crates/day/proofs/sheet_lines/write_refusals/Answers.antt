@@ -1,6 +1,5 @@
 -- `day::sheet_lines::write_refusals` meets its contract: each turn writes one line. Assumes nothing.
 use mathlib.Core.Path.{refl}
-use Prim.Native.Nat.{◌-◌}
 use native.Mathlib.Omega.{arith}
 use Rattle.day.proofs.sheet_lines.Telling.{refusing-none, refusing-more, refusing-all}
 use Rattle.day.proofs.sheet_lines.write_refusals.Goals as goal

@@ -1,5 +1,4 @@
 -- `sheets::widen_all` meets its contract: each turn takes one point. Assumes nothing.
-use Prim.Native.Nat.{◌-◌}
 use native.Mathlib.Omega.{arith}
 use Rattle.day.proofs.sheets.Leaves.{widening-none, widening-more, widening-all}
 use Rattle.day.proofs.sheets.widen_all.Goals as goal
@@ -9,9 +8,6 @@ loop-k-init c = (omega arith, widening-none _ _ _ c.byte_at-count.ensures.0)
 
 pub point_at-requires : goal.point_at-requires
 point_at-requires c = omega (arith, c.byte_at-count.ensures.1)
-
-pub overflow_add-k : goal.overflow_add-k
-overflow_add-k c = omega (arith, c.byte_at-count.ensures.1)
 
 pub loop-k-preserved : goal.loop-k-preserved
 loop-k-preserved c = (

@@ -6,4 +6,4 @@ use Rattle.door.proofs.tally.new.Goals as goal
 
 pub returns : goal.returns
 unfolding blank_reader reader_of held_of blank
-returns c = rw c.no_pairs-tally.ensures refl
+returns c = rw c.no_pairs.ensures refl

@@ -16,8 +16,8 @@ slice_bounds-same-end c = simp length-take (omega (arith, (replied c.door_reply-
 pub slice_bounds-today-end-2 : goal.slice_bounds-today-end-2
 slice_bounds-today-end-2 c = (replied c.door_reply-count.ensures refl).inside
 
-pub slice_bounds-tell-end : goal.slice_bounds-tell-end
-slice_bounds-tell-end c =
+pub slice_bounds-entry-end : goal.slice_bounds-entry-end
+slice_bounds-entry-end c =
     simp length-take (omega (arith, (replied c.door_reply-count.ensures refl).inside))
 
 pub returns : goal.returns

@@ -7,8 +7,8 @@ use Rattle.night.proofs.listing.tell.Goals as goal
 pub returns-then-wanted-eq0 : goal.returns-then-wanted-eq0
 returns-then-wanted-eq0 c = told-each _ _ _ _ _ _ _ _ _ (omega arith) c.tell_entry.ensures
 
-pub returns-then-wanted-number : goal.returns-then-wanted-number
-returns-then-wanted-number c = told-other _ _ _ _ _ _ _ _ (λ e. omega arith) (λ e. omega arith)
+pub returns-then-wanted-pair : goal.returns-then-wanted-pair
+returns-then-wanted-pair c = told-other _ _ _ _ _ _ _ _ (λ e. omega arith) (λ e. omega arith)
 
 pub returns : goal.returns
 returns c =

@@ -2,7 +2,6 @@
 -- Assumes nothing.
 use mathlib.Core.Path.{sym}
 use native.Mathlib.Omega.{arith}
-use Prim.Native.Nat.{◌-◌}
 use lib.ListN.{length-take, length-drop}
 use Rattle.feed.proofs.Reading.{handed-long}
 use Rattle.renewal.proofs.converter.Turning.{none_filled, same-room, turn-handing, turn-fits, turn-filled, turn-within, all-filled}

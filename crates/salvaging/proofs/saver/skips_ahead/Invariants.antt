@@ -1,6 +1,4 @@
 -- `salvaging::saver::skips_ahead` meets its contract. Assumes nothing.
-use Prim.Native.Nat.{◌-◌}
-use lib.ListN.{length}
 use Rattle.pairs.specs.Cut.{longest_record}
 use Rattle.door.specs.Contract.{reply_of}
 use Rattle.salvaging.proofs.saver.Looking.{Skipped}
@@ -8,6 +6,3 @@ use Rattle.salvaging.proofs.saver.skips_ahead.Given as goal
 
 abbrev pub invariant-loop-i : goal.invariant-loop-i
 invariant-loop-i l = Skipped longest_record reply_of l.last l.window l.i
-
-abbrev pub decreases-loop-i : goal.decreases-loop-i
-decreases-loop-i l = length l.window - l.i

@@ -5,8 +5,5 @@ use Rattle.page.proofs.Putting.{Onward}
 use Rattle.shown.proofs.asked.put_numbers.Given as goal
 
 abbrev pub invariant-loop-k : goal.invariant-loop-k
-invariant-loop-k l = Onward (numbers_text l.request l.from 0 l.count) l.initial.page l.at l.page l.end (numbers_text l.request l.from l.k
+invariant-loop-k l = Onward (numbers_text l.request l.from 0 l.count) l.initial.paper l.paper (numbers_text l.request l.from l.k
     (l.count - l.k))
-
-abbrev pub decreases-loop-k : goal.decreases-loop-k
-decreases-loop-k l = l.count - l.k

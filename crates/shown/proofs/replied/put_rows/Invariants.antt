@@ -5,7 +5,4 @@ use Rattle.page.proofs.Putting.{Onward}
 use Rattle.shown.proofs.replied.put_rows.Given as goal
 
 abbrev pub invariant-loop-k : goal.invariant-loop-k
-invariant-loop-k l = Onward (rows_text l.a l.b 0 l.count) l.initial.page l.at l.page l.end (rows_text l.a l.b l.k (l.count - l.k))
-
-abbrev pub decreases-loop-k : goal.decreases-loop-k
-decreases-loop-k l = l.count - l.k
+invariant-loop-k l = Onward (rows_text l.a l.b 0 l.count) l.initial.paper l.paper (rows_text l.a l.b l.k (l.count - l.k))

@@ -12,9 +12,6 @@ decreases-gather_row l = l.left
 
 abbrev pub invariant-loop-c : goal.invariant-loop-c
 invariant-loop-c l =
-    (l.c ≤ l.count) × Counting l.t l.count 1 l.second (l.left - 1) l.from l.c l.n
+    (l.c ≤ l.count) × Counting l.t l.count 1 l.second (l.left - 1) l.fn.run.from l.c l.n
     × Sofar (read_at l.t l.count l.second l.left) (rest_at l.t l.count l.second l.left) (terms_of l.t l.count (group_at 2 l.second l.left))
-    (of_group l.second l.left) l.from l.begun l.weight l.s (boxed (l.second + 1) l.net) l.initial.sums l.closed l.c l.b l.w l.sums
-
-abbrev pub decreases-loop-c : goal.decreases-loop-c
-decreases-loop-c l = l.count - l.c
+    (of_group l.second l.left) l.fn.run.from l.fn.run.begun l.fn.run.weight l.fn.run.s (boxed (l.second + 1) l.net) l.initial.sums l.closed l.c l.b l.w l.sums

@@ -50,7 +50,7 @@ arrangements-requires t c = let r = c.requires.1 in (
 pub overflow_mul-closed : goal.overflow_mul-closed
 overflow_mul-closed t c =
     let small = weight-small _ _ _ _ _ _ _ _ _ _ c.requires.1 in
-    omega (arith, mul-le-mul_left c.args.weight c.arrangements.ensures.1)
+    omega (arith, mul-le-mul_left c.args.run.weight c.arrangements.ensures.1)
 
 pub overflow_sub-left : goal.overflow_sub-left
 overflow_sub-left t c = let p = c.requires.0 in omega arith
@@ -78,7 +78,6 @@ placed-place-requires t c =
     let n = c.requires.1.able.good.few in
     let p = place _ _ _ _ _ _ _ _ _ _ c.requires.1 _ _ ((let h : c.args.left ≡ suc (c.args.left - 1) = one_fewer _ c.requires.0 in h)) _ _ _ _ _ c.loop-c.invariant.2 c.loop-c-test.true in
     let long = c.loop-c.invariant.2.toward.long in
-    let q = c.well_formed.1.1.1.1.1.1.1.1.0 in
     (omega arith, omega arith)
 
 pub weighed-v-requires : goal.weighed-v-requires
@@ -145,9 +144,9 @@ met : (t : ℕ) (c : goal.After-row_known-1 t) → (
     let m = c.if-left-eq3.m in
     let sums = c.if-left-eq3.sums in
     let a = c.args in
-    let closed = a.weight * c.arrangements.result in
+    let closed = a.run.weight * c.arrangements.result in
     Counted a.t.now a.count 2 0 (a.left - 1) c.loop-c.c m
-    × Loop a.t.now a.count 0 0 a.left a.from a.begun a.s a.weight a.sums.now c.requires.1 (held a.net.now) closed
+    × Loop a.t.now a.count 0 0 a.left a.run.from a.run.begun a.run.s a.run.weight a.sums.now c.requires.1 (held a.net.now) closed
     (c.loop-c.c + 1) a.left closed sums)
 met t c =
     elim c.if-left-eq3.branch [
@@ -203,9 +202,6 @@ overflow_add-n-in-loop-c t c =
           (omega arith) c.loop-c.invariant.1,
       c.triangle-formed.ensures.1,
     )
-
-pub overflow_add-c : goal.overflow_add-c
-overflow_add-c t c = let n = c.requires.1.able.good.few in omega arith
 
 pub loop-c-preserved : goal.loop-c-preserved
 loop-c-preserved t c =

@@ -12,9 +12,6 @@ decreases-gather_tri l = l.left
 
 abbrev pub invariant-loop-c : goal.invariant-loop-c
 invariant-loop-c l =
-    (l.c ≤ l.count) × Counting l.t l.count 2 0 (l.left - 1) l.from l.c l.n
+    (l.c ≤ l.count) × Counting l.t l.count 2 0 (l.left - 1) l.fn.run.from l.c l.n
     × Sofar (read_at l.t l.count 0 l.left) (rest_at l.t l.count 0 l.left) (terms_of l.t l.count (group_at 0 0 l.left)) (of_group 0 l.left)
-    l.from l.begun l.weight l.s (held l.net) l.initial.sums l.closed l.c l.b l.w l.sums
-
-abbrev pub decreases-loop-c : goal.decreases-loop-c
-decreases-loop-c l = l.count - l.c
+    l.fn.run.from l.fn.run.begun l.fn.run.weight l.fn.run.s (held l.net) l.initial.sums l.closed l.c l.b l.w l.sums

@@ -6,19 +6,22 @@ use Rattle.whole.specs.Choose.{choose}
 use Rattle.whole.proofs.Binomial.{choose-zero, choose-self, choose-sym}
 use Rattle.sums.proofs.gather.Gathering.{choose_one}
 use Rattle.sums.proofs.gather.arrangements.Goals as goal
+use Rattle.sums.proofs.gather.arrangements.Goals.{then-left-eq0-via-then-left-eq0, then-left-eq0-via-else-left-eq0+then-left-begun, then-left-eq1-via-then-left-eq1, then-left-eq1-via-else-left-eq1+then-left-begun-2}
 
 pub returns-then-left-eq0 : goal.returns-then-left-eq0
-returns-then-left-eq0 c = (rw c.if-left-eq0.true (sym (choose-zero _)), omega arith)
-
-pub returns-then-left-begun : goal.returns-then-left-begun
-returns-then-left-begun c = (rw c.if-left-begun.true (sym (choose-self _)), omega arith)
+returns-then-left-eq0 c =
+    elim c.then-left-eq0.branch [
+      | then-left-eq0-via-then-left-eq0 w ↦ (rw w.if-left-eq0.true (sym (choose-zero _)), omega arith)
+      | then-left-eq0-via-else-left-eq0+then-left-begun w ↦ (rw w.if-left-begun.true (sym (choose-self _)), omega arith)
+    ]
 
 pub returns-then-left-eq1 : goal.returns-then-left-eq1
-returns-then-left-eq1 c = (rw c.if-left-eq1.true (sym (choose_one c.args.begun)), let p = c.requires.0 in omega arith)
-
-pub returns-then-left-begun-2 : goal.returns-then-left-begun-2
-returns-then-left-begun-2 c =
-    (sym (choose-sym c.args.begun c.args.left 1 (omega arith) ∙ choose_one c.args.begun), let p = c.requires.0 in omega arith)
+returns-then-left-eq1 c =
+    elim c.then-left-eq1.branch [
+      | then-left-eq1-via-then-left-eq1 w ↦ (rw w.if-left-eq1.true (sym (choose_one c.args.begun)), let p = c.requires.0 in omega arith)
+      | then-left-eq1-via-else-left-eq1+then-left-begun-2 w ↦
+          (sym (choose-sym c.args.begun c.args.left 1 (omega arith) ∙ choose_one c.args.begun), let p = c.requires.0 in omega arith)
+    ]
 
 pub returns : goal.returns
 unfolding choose

@@ -14,7 +14,7 @@ use Rattle.sums.proofs.gather.last_row.Goals as goal
 pub overflow_mul-closed : goal.overflow_mul-closed
 overflow_mul-closed c =
     let small = weight-small _ _ _ _ _ _ _ _ _ _ c.requires.0 in
-    omega (arith, mul-le-mul_left c.args.weight c.requires.0.able.few)
+    omega (arith, mul-le-mul_left c.args.run.weight c.requires.0.able.few)
 
 pub loop-c-init : goal.loop-c-init
 loop-c-init c = (let h = c.requires.0.able.here in omega arith, last-start _ _ _ _ _ _ _ _ _ c.requires.0 _)
@@ -39,7 +39,6 @@ placed-requires c =
     let n = c.requires.0.able.good.few in
     let p = last-asks _ _ _ _ _ _ _ _ _ c.requires.0 _ _ _ _ _ c.loop-c.invariant.1 c.loop-c-test.true _ _ refl refl in
     let long = c.loop-c.invariant.1.sofar.toward.long in
-    let q = c.well_formed.1.1.1.1.1.1.1.1.0 in
     (omega arith, omega arith)
 
 pub settle-requires : goal.settle-requires

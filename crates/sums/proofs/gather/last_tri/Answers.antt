@@ -14,7 +14,7 @@ use Rattle.sums.proofs.gather.last_tri.Goals as goal
 pub overflow_mul-closed : goal.overflow_mul-closed
 overflow_mul-closed c =
     let small = weight-small _ _ _ _ _ _ _ _ _ _ c.requires.0 in
-    omega (arith, mul-le-mul_left c.args.weight c.requires.0.able.few)
+    omega (arith, mul-le-mul_left c.args.run.weight c.requires.0.able.few)
 
 pub loop-c-init : goal.loop-c-init
 loop-c-init c = (let h = c.requires.0.able.here in omega arith, last-start _ _ _ _ _ _ _ _ _ c.requires.0 _)

@@ -18,7 +18,7 @@ arrangements-requires c = let r = c.requires.0 in (r.able.few, open-here _ _ _ _
 pub overflow_mul-closed : goal.overflow_mul-closed
 overflow_mul-closed c =
     let small = weight-small _ _ _ _ _ _ _ _ _ _ c.requires.0 in
-    omega (arith, mul-le-mul_left c.args.weight c.arrangements.ensures.1)
+    omega (arith, mul-le-mul_left c.args.run.weight c.arrangements.ensures.1)
 
 pub loop-c-init : goal.loop-c-init
 loop-c-init c =
@@ -41,7 +41,6 @@ placed-place-requires c =
     let n = c.requires.0.able.good.few in
     let p = place _ _ _ _ _ _ _ _ _ _ c.requires.0 _ 1 refl _ _ _ _ _ c.loop-c.invariant.2 c.loop-c-test.true in
     let long = c.loop-c.invariant.2.toward.long in
-    let q = c.well_formed.1.1.1.1.1.1.1.1.0 in
     (omega arith, omega arith)
 
 pub weighed-v-requires : goal.weighed-v-requires
@@ -71,9 +70,6 @@ overflow_add-n-in-loop-c c =
       counting-small _ _ _ _ 1 _ _ _ (omega arith)
           (omega arith) c.loop-c.invariant.1,
     )
-
-pub overflow_add-c : goal.overflow_add-c
-overflow_add-c c = let n = c.requires.0.able.good.few in omega arith
 
 pub loop-c-preserved : goal.loop-c-preserved
 unfolding size choose

@@ -1,5 +1,5 @@
 -- `sums::gather::pair_row` meets its contract: each turn adds what its term takes on. Assumes nothing.
-use Prim.Native.Nat.{◌+◌, ◌-◌, ◌≤◌}
+use Prim.Native.Nat.{◌+◌, ◌≤◌}
 use Rattle.sums.specs.steps.Layout.{boxed}
 use Rattle.sums.specs.steps.Few.{in_four}
 use Rattle.sums.specs.gather.Table.{terms_of}
@@ -10,9 +10,6 @@ use Rattle.sums.proofs.gather.pair_row.Given as goal
 
 abbrev pub invariant-loop-c : goal.invariant-loop-c
 invariant-loop-c l =
-    (l.c ≤ l.count) × Counting l.t l.count 1 l.second 1 l.from l.c l.n
-    × Sofar (read_at l.t l.count l.second 2) (rest_at l.t l.count l.second 2) (terms_of l.t l.count (group_at 2 l.second 2)) (of_group l.second 2) l.from l.begun l.weight l.s
+    (l.c ≤ l.count) × Counting l.t l.count 1 l.second 1 l.fn.run.from l.c l.n
+    × Sofar (read_at l.t l.count l.second 2) (rest_at l.t l.count l.second 2) (terms_of l.t l.count (group_at 2 l.second 2)) (of_group l.second 2) l.fn.run.from l.fn.run.begun l.fn.run.weight l.fn.run.s
     (boxed (l.second + 1) (in_four l.net)) l.initial.sums l.closed l.c l.b l.w l.sums
-
-abbrev pub decreases-loop-c : goal.decreases-loop-c
-decreases-loop-c l = l.count - l.c

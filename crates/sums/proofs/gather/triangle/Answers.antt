@@ -5,20 +5,20 @@ use Rattle.whole.specs.Choose.{choose}
 use Rattle.net.specs.runs.Tree.{size}
 use Rattle.sums.proofs.gather.triangle.Goals as goal
 
-pub returns-then-d-eq3 : goal.returns-then-d-eq3
+pub returns-in-3 : goal.returns-in-3
 unfolding size choose
-returns-then-d-eq3 c = rw c.if-d-eq3.true (refl, omega arith)
+returns-in-3 c = rw c.in-3.is (refl, omega arith)
 
-pub returns-then-d-eq2 : goal.returns-then-d-eq2
+pub returns-in-2 : goal.returns-in-2
 unfolding size choose
-returns-then-d-eq2 c = rw c.if-d-eq2.true (refl, omega arith)
+returns-in-2 c = rw c.in-2.is (refl, omega arith)
 
-pub returns-then-d-eq1 : goal.returns-then-d-eq1
+pub returns-in-1 : goal.returns-in-1
 unfolding size choose
-returns-then-d-eq1 c = rw c.if-d-eq1.true (refl, omega arith)
+returns-in-1 c = rw c.in-1.is (refl, omega arith)
 
-pub returns : goal.returns
+pub returns-in_default : goal.returns-in_default
 unfolding size choose
-returns c =
+returns-in_default c =
     let z : c.args.d ≡ 0 = let p = c.requires in omega arith in
     rw z (refl, omega arith)

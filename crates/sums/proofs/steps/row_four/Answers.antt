@@ -25,5 +25,5 @@ returns-then-wide c =
 pub returns : goal.returns
 unfolding front
 returns c =
-    rw (c.slide-a.ensures, c.slide-b.ensures, c.slide-c.ensures, c.plus.ensures, c.if-wide.false)
+    rw (c.slide-a.ensures, c.slide-b.ensures, c.slide-c.ensures, c.if-wide.false)
     (front-slid c.args.p.now c.args.s c.args.gap 3 3 1 c.requires.0 (omega arith))

@@ -8,13 +8,13 @@ use Rattle.text.proofs.kinds.begin.Goals as goal
 pub returns-then-line-gt4096 : goal.returns-then-line-gt4096
 unfolding begun
 returns-then-line-gt4096 c = record {
-  is = rw (lt-ltb longest_line (length c.args.line.now) (omega arith)) c.overlong.ensures;
-  inside = rw c.overlong.ensures (record { order = omega arith; end = omega arith });
+  is = rw (lt-ltb longest_line (length c.args.line.now) (omega arith));
+  inside = record { order = omega arith; end = omega arith };
 }
 
-pub returns : goal.returns
+pub returns-else-line-gt4096 : goal.returns-else-line-gt4096
 unfolding begun
-returns c = record {
+returns-else-line-gt4096 c = record {
   is = rw (le-ltb longest_line (length c.args.line.now) (omega arith));
   inside = record { order = omega arith; end = omega arith };
 }

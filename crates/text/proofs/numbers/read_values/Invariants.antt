@@ -1,6 +1,5 @@
 -- `text::numbers::read_values` meets its contract: the values so far lie at the front of the array. Assumes nothing.
 use mathlib.Core.Path.{◌≡◌}
-use Prim.Native.Nat.{◌-◌, ◌≤◌}
 use lib.Seq.{sets}
 use Rattle.text.specs.numbers.Numbers.{after_values, values}
 use Rattle.text.specs.words.Read.{Inside}
@@ -8,7 +7,4 @@ use Rattle.text.proofs.numbers.read_values.Given as goal
 
 abbrev pub invariant-loop-k : goal.invariant-loop-k
 invariant-loop-k l =
-    (l.k ≤ l.count) × (l.cursor ≡ after_values l.line l.initial.cursor l.k) × Inside l.line l.cursor × (l.out ≡ sets l.initial.out 0 (values l.line l.initial.cursor l.k))
-
-abbrev pub decreases-loop-k : goal.decreases-loop-k
-decreases-loop-k l = l.count - l.k
+    (l.cursor ≡ after_values l.line l.initial.cursor l.k) × Inside l.line l.cursor × (l.out ≡ sets l.initial.out 0 (values l.line l.initial.cursor l.k))

@@ -21,24 +21,15 @@ module _ (n : ℕ) (h : n ≤ 2147483648) where
   fits : SFits w32 (neg_ℤ (pos n))
   fits = record { sfits = near n h }
 
-pub overflow_cast-result : goal.overflow_cast-result
-overflow_cast-result c = let h = (let h : c.args.size ≤ 2147483648 = rw c.if-minus.true at c.requires in h) in record { sfits = omega arith }
-
-pub overflow_sub-result : goal.overflow_sub-result
-overflow_sub-result c = rw (away _ ((let h : c.args.size ≤ 2147483648 = rw c.if-minus.true at c.requires in h))) (sfits_widen tt (fits _ ((let h : c.args.size ≤ 2147483648 = rw c.if-minus.true at c.requires in h))))
-
-pub overflow_cast-result-then-minus : goal.overflow_cast-result-then-minus
-overflow_cast-result-then-minus c = let f = fits _ ((let h : c.args.size ≤ 2147483648 = rw c.if-minus.true at c.requires in h)) in rw (away _ ((let h : c.args.size ≤ 2147483648 = rw c.if-minus.true at c.requires in h)), to_z-of_z (sfits_widen {w' = w64} tt f)) f
-
-pub returns-then-minus : goal.returns-then-minus
+pub returns-then-n : goal.returns-then-n
 unfolding signed
-returns-then-minus c =
-    let f = fits _ ((let h : c.args.size ≤ 2147483648 = rw c.if-minus.true at c.requires in h)) in
-    rw (away _ ((let h : c.args.size ≤ 2147483648 = rw c.if-minus.true at c.requires in h)), to_z-of_z (sfits_widen {w' = w64} tt f), to_z-of_z f, c.if-minus.true)
+returns-then-n c =
+    let h : c.args.n.size ≤ 2147483648 = rw c.if-n.true at c.requires in
+    let f = fits _ h in
+    rw (away _ h, to_z-of_z (sfits_widen {w' = w64} tt f), to_z-of_z f, c.if-n.true)
 
-pub overflow_cast-result-2 : goal.overflow_cast-result-2
-overflow_cast-result-2 c = let h = (let h : c.args.size ≤ 2147483647 = rw c.if-minus.false at c.requires in h) in record { sfits = omega arith }
-
-pub returns : goal.returns
+pub returns-else-n : goal.returns-else-n
 unfolding signed
-returns c = let h = (let h : c.args.size ≤ 2147483647 = rw c.if-minus.false at c.requires in h) in rw c.if-minus.false (to_z_pos w32 (omega arith))
+returns-else-n c =
+    let h : c.args.n.size ≤ 2147483647 = rw c.if-n.false at c.requires in
+    rw c.if-n.false (to_z_pos w32 (omega arith))

@@ -4,21 +4,17 @@ use Rattle.text.proofs.pieces.Keeping.{cutting-none, cutting-more, cuts-newline,
 use Rattle.text.proofs.pieces.cut.Goals as goal
 
 pub loop-i-init : goal.loop-i-init
-loop-i-init c = cutting-none _ _ _ _ _ c.least-end.ensures
-
-pub shape_of-line-then-part-i-eq10 : goal.shape_of-line-then-part-i-eq10
-shape_of-line-then-part-i-eq10 c = c.loop-i.invariant.size
+loop-i-init c = (cutting-none _ _ _ _ _ c.min-end.ensures, omega arith)
 
 pub returns-then-part-i-eq10 : goal.returns-then-part-i-eq10
-returns-then-part-i-eq10 c = cuts-newline _ _ _ _ _ _ _ c.loop-i.invariant (omega arith) c.if-part-i-eq10.true
+returns-then-part-i-eq10 c = cuts-newline _ _ _ _ _ _ _ c.loop-i.invariant.0 (omega arith) c.if-part-i-eq10.true
 
 pub loop-i-preserved : goal.loop-i-preserved
-loop-i-preserved c =
-    cutting-more _ _ _ _ _ _ _ c.loop-i.invariant (omega arith)
-    c.if-part-i-eq10.false _ _ c.keep_byte-end.ensures
-
-pub shape_of-line : goal.shape_of-line
-shape_of-line c = c.loop-i.invariant.size
+loop-i-preserved c = (
+  cutting-more _ _ _ _ _ _ _ c.loop-i.invariant.0 (omega arith)
+      c.if-part-i-eq10.false _ _ c.keep_byte-end.ensures,
+  omega arith,
+)
 
 pub returns : goal.returns
-returns c = cuts-end _ _ _ _ _ _ _ c.loop-i.invariant c.loop-i-test.false
+returns c = cuts-end _ _ _ _ _ _ _ c.loop-i.invariant.0 c.loop-i-test.false _ (omega arith)

@@ -1,11 +1,8 @@
 -- `text::pieces::cut` meets its contract: what is left to cut, after what is kept, is the whole. Assumes nothing.
-use Prim.Native.Nat.{◌-◌}
+use Prim.Native.Nat.{◌≤◌, max}
 use lib.ListN.{length}
 use Rattle.text.proofs.pieces.Keeping.{Cutting}
 use Rattle.text.proofs.pieces.cut.Given as goal
 
 abbrev pub invariant-loop-i : goal.invariant-loop-i
-invariant-loop-i l = Cutting l.part l.at l.initial.line l.kept l.line l.end l.i
-
-abbrev pub decreases-loop-i : goal.decreases-loop-i
-decreases-loop-i l = length l.part - l.i
+invariant-loop-i l = Cutting l.part l.fn.at l.initial.line l.fn.kept l.line l.end l.i × (l.i ≤ max l.fn.at (length l.part))

@@ -6,4 +6,4 @@ use Rattle.text.proofs.tell.tell.Goals as goal
 pub returns : goal.returns
 unfolding complaint
 returns c =
-    written_then _ _ _ _ _ _ _ _ _ _ c.write_place-at.ensures c.write_reason.ensures
+    rw (← c.unwrap_or.ensures) (written_then _ _ _ _ _ _ _ _ _ _ c.write_place-at.ensures c.write_reason.ensures)

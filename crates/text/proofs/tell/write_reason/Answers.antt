@@ -1,44 +1,26 @@
 -- `text::tell::write_reason` meets its contract: by the reason. Assumes nothing.
 use native.Mathlib.Omega.{arith}
-use borrow.Author.Tests.{eq-eqb, ne_eqb}
 use Rattle.text.specs.tell.Tell.{told}
 use Rattle.spell.proofs.Writing.{written-within}
 use Rattle.text.proofs.tell.write_reason.Goals as goal
 
-pub returns-then-wrong-eq-NOT_NUMBER : goal.returns-then-wrong-eq-NOT_NUMBER
+pub returns-in-NotNumber : goal.returns-in-NotNumber
 unfolding told
-returns-then-wrong-eq-NOT_NUMBER c =
-    rw (eq-eqb _ _ c.if-wrong-eq-NOT_NUMBER.true) c.write_quoted.ensures
+returns-in-NotNumber c = rw c.in-NotNumber.is c.write_quoted.ensures
 
-pub returns-then-wrong-eq-OUTSIDE : goal.returns-then-wrong-eq-OUTSIDE
+pub returns-in-Outside : goal.returns-in-Outside
 unfolding told
-returns-then-wrong-eq-OUTSIDE c =
-    rw (ne_eqb _ _ c.if-wrong-eq-NOT_NUMBER.false, eq-eqb _ _ c.if-wrong-eq-OUTSIDE.true) c.write_quoted-then-wrong-eq-OUTSIDE.ensures
+returns-in-Outside c = rw c.in-Outside.is c.write_quoted-in-Outside.ensures
 
-pub returns-then-wrong-eq-LEFT_OVER : goal.returns-then-wrong-eq-LEFT_OVER
+pub returns-in-LeftOver : goal.returns-in-LeftOver
 unfolding told
-returns-then-wrong-eq-LEFT_OVER c =
-    rw (ne_eqb _ _ c.if-wrong-eq-NOT_NUMBER.false, ne_eqb _ _ c.if-wrong-eq-OUTSIDE.false, eq-eqb _ _ c.if-wrong-eq-LEFT_OVER.true)
-    c.write_quoted-then-wrong-eq-LEFT_OVER.ensures
+returns-in-LeftOver c = rw c.in-LeftOver.is c.write_quoted-in-LeftOver.ensures
 
-pub returns-then-wrong-eq-TOO_FEW : goal.returns-then-wrong-eq-TOO_FEW
+pub returns-in-TooFew : goal.returns-in-TooFew
 unfolding told
-returns-then-wrong-eq-TOO_FEW c =
-    rw (
-      ne_eqb _ _ c.if-wrong-eq-NOT_NUMBER.false,
-      ne_eqb _ _ c.if-wrong-eq-OUTSIDE.false,
-      ne_eqb _ _ c.if-wrong-eq-LEFT_OVER.false,
-      eq-eqb _ _ c.if-wrong-eq-TOO_FEW.true,
-    )
-    (written-within _ _ _ _ _ _ c.write_bytes.ensures 4132 (omega arith))
+returns-in-TooFew c = rw c.in-TooFew.is (written-within _ _ _ _ _ _ c.write_bytes.ensures 4132 (omega arith))
 
-pub returns : goal.returns
+pub returns-in-TooLong : goal.returns-in-TooLong
 unfolding told
-returns c =
-    rw (
-      ne_eqb _ _ c.if-wrong-eq-NOT_NUMBER.false,
-      ne_eqb _ _ c.if-wrong-eq-OUTSIDE.false,
-      ne_eqb _ _ c.if-wrong-eq-LEFT_OVER.false,
-      ne_eqb _ _ c.if-wrong-eq-TOO_FEW.false,
-    )
-    (written-within _ _ _ _ _ _ c.write_bytes-2.ensures 4132 (omega arith))
+returns-in-TooLong c =
+    rw c.in-TooLong.is (written-within _ _ _ _ _ _ c.write_bytes-in-TooLong.ensures 4132 (omega arith))

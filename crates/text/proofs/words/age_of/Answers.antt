@@ -1,21 +1,14 @@
 -- `text::words::age_of` meets its contract: the mark and a number, or a word left over. Assumes nothing.
-use mathlib.Core.Path.{◌≡◌, sym, ◌∙◌}
-use mathlib.Core.Bool.{true}
+use mathlib.Core.Path.{refl, sym, ◌∙◌}
 use Rattle.text.specs.words.Words.{age_mark, is_age}
 use Rattle.text.proofs.words.Cases.{reads-age, reads_other}
-use Rattle.text.proofs.words.Marks.{begins-long}
+use Rattle.text.proofs.words.Marks.{strips_mark}
 use Rattle.text.proofs.words.age_of.Goals as goal
 
-pub returns-then-not-is_age : goal.returns-then-not-is_age
-returns-then-not-is_age c = reads_other _ _ (sym c.is_age.ensures ∙ c.if-not-is_age.true) c.refused.ensures
-
-pub slice_bounds-bounded-count : goal.slice_bounds-bounded-count
+pub returns-in-Some : goal.returns-in-Some
 unfolding is_age
-slice_bounds-bounded-count c = begins-long age_mark _ ((let h : is_age c.args.word.now ≡ true = sym c.is_age.ensures ∙ c.if-not-is_age.false in h))
+returns-in-Some c = reads-age _ _ (sym (strips_mark age_mark c.args.word.now) ∙ c.in-Some.ensures.cases.0) (c.bounded.ensures.is ∙ rw c.in-Some.ensures.cases.1)
 
-pub slice_bounds-bounded-start : goal.slice_bounds-bounded-start
+pub returns-in-None : goal.returns-in-None
 unfolding is_age
-slice_bounds-bounded-start c = begins-long age_mark _ ((let h : is_age c.args.word.now ≡ true = sym c.is_age.ensures ∙ c.if-not-is_age.false in h))
-
-pub returns : goal.returns
-returns c = reads-age _ _ ((let h : is_age c.args.word.now ≡ true = sym c.is_age.ensures ∙ c.if-not-is_age.false in h)) c.bounded.ensures.is
+returns-in-None c = reads_other _ _ (sym (strips_mark age_mark c.args.word.now) ∙ c.in-None.ensures.cases) refl

@@ -1,9 +1,0 @@
--- `sheets::counts_refused` meets its contract. Assumes nothing.
-use borrow.Author.Tests.{eq-eqb, ne_eqb}
-use Rattle.day.proofs.sheets.counts_refused.Goals as goal
-
-pub returns-then-number-eq0 : goal.returns-then-number-eq0
-returns-then-number-eq0 c = rw (eq-eqb _ _ c.if-number-eq0.true)
-
-pub returns : goal.returns
-returns c = rw (ne_eqb _ _ c.if-number-eq0.false)

@@ -1,0 +1,2 @@
+-- The room that every program shares. Assumes nothing.
+pub mod Verdicts

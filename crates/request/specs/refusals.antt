@@ -1,0 +1,2 @@
+-- The refusals by their names. Assumes nothing.
+pub mod Number

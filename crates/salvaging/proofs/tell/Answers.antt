@@ -1,7 +1,0 @@
--- `salvaging::tell` meets its contract. Assumes nothing.
-use native.Mathlib.Omega.{arith}
-use lib.ListN.{length-take}
-use Rattle.salvaging.proofs.tell.Goals as goal
-
-pub slice_bounds-write-end : goal.slice_bounds-write-end
-slice_bounds-write-end c = simp length-take (omega arith)

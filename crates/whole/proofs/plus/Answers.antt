@@ -1,9 +1,0 @@
--- `whole::plus` meets its contract: bits below the sign are read as they are.
--- Assumes nothing.
-use native.Mathlib.Omega.{arith}
-use mir.Syntax.{w64}
-use mir.Facts.{to_z_pos}
-use Rattle.whole.proofs.plus.Goals as goal
-
-pub returns : goal.returns
-returns c = to_z_pos w64 (omega arith)

@@ -1,8 +1,0 @@
--- `wire::byte_at` meets its contract: past the end the list's reading is 0. Assumes nothing.
-use mathlib.Core.Path.{sym}
-use native.Mathlib.Omega.{arith}
-use lib.ListN.{get_or-eq_default}
-use Rattle.wire.proofs.byte_at.Goals as goal
-
-pub returns : goal.returns
-returns c = (sym (get_or-eq_default c.args.bytes.now 0 c.if-k-bytes.false), omega arith)
