@@ -2,12 +2,14 @@
 -- Assumes nothing.
 use mathlib.Core.Path.{◌≡◌, refl, sym, ◌∙◌}
 use mathlib.Core.Bool.{Bool, true, false, not}
-use mathlib.Core.List.{List, [], ◌∷◌, ◌++◌, append-nil}
-use Prim.Native.Nat.{ℕ, ◌+◌, ◌-◌, ◌≤◌, ◌<◌, min}
+use mathlib.Core.List.{List, [], ◌∷◌, ◌++◌, append_assoc, append-nil}
+use Prim.Native.Nat.{ℕ, suc, ◌+◌, ◌-◌, ◌≤◌, ◌<◌, min}
+use native.Mathlib.Numerals.{add-one}
 use native.Mathlib.Omega.{arith}
 use lib.Dec.{leb, eqb}
-use lib.ListN.{length, take, drop, get_or, set, length-take, length-drop, drop_of_length-le}
-use lib.Seq.{take_all, set_out}
+use lib.ListN.{length, take, drop, get_or, set, length-append, length-replicate, length-take, drop_of_length-le, take-append-drop}
+use lib.ListN.{replicate-append-replicate}
+use lib.Seq.{length-take-le, drop-cons, set_at, take_all, set_out}
 use borrow.Author.Tests.{le-ltb, lt-ltb, le-leb, lt-leb, leb-true, leb-false, eq-eqb, ne_eqb}
 use Rattle.pairs.specs.Cut.{pair_size}
 use Rattle.pairs.proofs.Leaves.{starts_is}
@@ -80,16 +82,36 @@ pub pair-copied : (held part bytes : List ℕ) (n m : ℕ) → n ≡ m → bytes
 unfolding after_pair
 pair-copied held part bytes n m e copied = record { held_is = rw (copied, ← e); handed_is = rw (← e) }
 
+-- a loop that clears: the front, the zeros so far, and what still stands
+unfoldable pub cleared : List ℕ → ℕ → ℕ → List ℕ
+cleared l from i = take from l ++ (zeros (i - from) ++ drop i l)
+
+module _ (l : List ℕ) (from : ℕ) where
+  pub clear-start : l ≡ cleared l from from
+  unfolding cleared
+  clear-start = let z : from - from ≡ 0 = omega arith in rw z (sym (take-append-drop from l))
+
+  pub clear_next : (i : ℕ) → from ≤ i → i < length l → set (cleared l from i) i 0 ≡ cleared l from (i + 1)
+  unfolding cleared
+  clear_next i f m =
+      let front = take from l ++ zeros (i - from) in
+      let size : length front ≡ i = rw (length-append, length-take-le from l (omega arith), length-replicate) (omega arith) in
+      let stood : cleared l from i ≡ front ++ get_or l i 0 ∷ drop (suc i) l = rw (drop-cons l i 0 m, append_assoc) in
+      let more : zeros (i + 1 - from) ≡ zeros (i - from) ++ 0 ∷ [] = one_more (i + 1 - from) (i - from) (omega arith) in
+      rw (stood, set_at front (get_or l i 0) (drop (suc i) l) 0 i size, more, add-one) (simp append_assoc)
+    where
+      one_more : (n m : ℕ) → n ≡ m + 1 → zeros n ≡ zeros m ++ 0 ∷ []
+      one_more n m e = rw e (sym (replicate-append-replicate m 1 0))
+
 -- zeros from the end of what is kept on
-pub settled : (held filled : List ℕ) (rest m : ℕ) → length held ≡ held_room → m ≡ min held_room rest
-    → filled ≡ zeros (length (take (held_room - m) (drop m held))) → take m held ++ (filled ++ drop (held_room - m) (drop m held)) ≡ held_of (take rest held)
-unfolding held_of
-settled held filled rest m room is cleared =
+pub settled : (held : List ℕ) (rest m i : ℕ) → length held ≡ held_room → m ≡ min held_room rest → i ≡ held_room
+    → cleared held m i ≡ held_of (take rest held)
+unfolding cleared held_of
+settled held rest m i room is end =
     let kept : take m held ≡ take rest held = by (leb held_room rest) refl in
-    let size : length (take (held_room - m) (drop m held)) ≡ held_room - length (take rest held) =
-    rw (← kept) (simp (length-take, length-drop) (omega arith)) in
-    let none : drop (held_room - m) (drop m held) ≡ [] = drop_of_length-le (drop m held) (rw length-drop (omega arith)) in
-    rw (none, append-nil, cleared, size, kept)
+    let none : drop i held ≡ [] = drop_of_length-le held (omega arith) in
+    let size : i - m ≡ held_room - length (take rest held) = simp length-take (omega arith) in
+    rw (kept, none, append-nil, size)
   where
     by : (t : Bool) → leb held_room rest ≡ t → take m held ≡ take rest held
     by true l =

@@ -108,10 +108,14 @@ pub fn next(most: usize, held: &mut [u8; 256], rest: u64, part: &[u8]) -> Handed
 }
 
 // Zeros behind the bytes that are kept, so that what is held is what was read and nothing else.
+// kept: a loop, since `fill` leaves a call of memset in lean_replay, which reads them no more, and for AArch64 needs memset for nothing else
 pub fn settle(held: &mut [u8; 256], rest: u64)
     ensures { held.new ≡ held_of (take rest held.old) }
 {
-    held[HELD.min(rest as usize)..].fill(0);
+    let start = HELD.min(rest as usize);
+    for i in start..HELD {
+        held[i] = 0;
+    }
 }
 
 // What a part adds to a state: each pair that it makes whole is added, one after the other. What has begun of the next one is kept at the

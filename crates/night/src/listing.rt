@@ -4,7 +4,8 @@ ghost use Rattle.std.specs.Prelude.{◌≡◌, ◌+◌, ◌≤◌, length, take}
 ghost use Rattle.door.specs.Contract.{reply_of};
 ghost use Rattle.pairs.specs.Cut.{pair_in};
 ghost use Rattle.feed.specs.Feed.{capped};
-ghost use Rattle.night.specs.listing.Tale.{Tale, told_of, differing as differing_of, tells, closing};
+ghost use Rattle.shown.specs.Page.{shown_page};
+ghost use Rattle.night.specs.listing.Tale.{Tale, on_page, told_of, differing as differing_of, tells, closing};
 ghost use Rattle.night.specs.listing.Contract.{Sends, Adds, Takes, Lists};
 
 use page::front;
@@ -65,6 +66,7 @@ fn differing(wanted: u64, alike: bool, number: u64, n: u64) -> u64
 
 // Where all that differ are asked for: the line of a pair whose reply is not today's.
 // kept: likewise
+#[inline(never)]
 fn tell_entry(unchanged: bool, pair: Entry<'_>, out: Stream) -> Stream
     ensures { Sends out (told_of 0 unchanged pair.entry.number pair.entry.offset pair.entry.request.now pair.entry.reply.now pair.entry.today.now) result }
 {
@@ -83,6 +85,24 @@ fn tell_entry(unchanged: bool, pair: Entry<'_>, out: Stream) -> Stream
     streams::write(out, front(&line, n))
 }
 
+// The page of a pair. A function of its own, like the one above, also where it is compiled: what holds a page clears it where it begins, and of the
+// pairs of a night few are told.
+#[inline(never)]
+fn tell_page(pair: Entry<'_>, out: Stream) -> Stream
+    ensures { Sends out (on_page (shown_page pair.entry.number pair.entry.offset pair.entry.request.now pair.entry.reply.now pair.entry.today.now)) result }
+{
+    let mut page = [0u8; PAGE];
+    let n = put_page(
+        pair.number,
+        pair.offset,
+        pair.request,
+        pair.reply,
+        pair.today,
+        &mut page,
+    );
+    streams::write(out, front(&page, n))
+}
+
 // kept: likewise
 // What is told of a pair: its line where all that differ are asked for, or its page.
 fn tell(wanted: u64, alike: bool, pair: Entry<'_>, out: Stream) -> Stream
@@ -95,16 +115,7 @@ fn tell(wanted: u64, alike: bool, pair: Entry<'_>, out: Stream) -> Stream
     if wanted != pair.number {
         return out;
     }
-    let mut page = [0u8; PAGE];
-    let n = put_page(
-        pair.number,
-        pair.offset,
-        pair.request,
-        pair.reply,
-        pair.today,
-        &mut page,
-    );
-    streams::write(out, front(&page, n))
+    tell_page(pair, out)
 }
 
 // Where the next pair begins: behind this one's request and reply.

@@ -44,6 +44,7 @@ fn write_reason(word: &[u8], wrong: Wrong, out: &mut [u8], at: usize) -> usize
         Wrong::LeftOver => write_quoted(word, b"is left over\n", out, at),
         Wrong::TooFew => write_bytes(b"too few words\n", out, at),
         Wrong::TooLong => write_bytes(b"longer than 4096 bytes\n", out, at),
+        Wrong::Other(_) => write_bytes(b"longer than 4096 bytes\n", out, at),
     }
 }
 

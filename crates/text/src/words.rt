@@ -5,7 +5,7 @@ ghost use Rattle.text.specs.words.Words.{because, is_blank, begins, is_age};
 ghost use Rattle.text.specs.words.Read.{Skips, Inside, Finds, cap, ReadsDigits, ReadsWord, ReadsAge};
 
 // Why a line is unreadable: a word that is not a whole number, a number out of its bounds, too few words, a word left
-// over, a line too long.
+// over, a line too long; or a number of the caller's own, which is handed on, and told as a line too long is.
 #[derive(Clone, Copy)]
 pub enum Wrong {
     NotNumber,
@@ -13,6 +13,7 @@ pub enum Wrong {
     TooFew,
     LeftOver,
     TooLong,
+    Other(u8),
 }
 
 // The word that was read last stands from start to before end, and reading goes on at end; or something is wrong with

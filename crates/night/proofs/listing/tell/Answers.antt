@@ -1,7 +1,6 @@
 -- `night::listing::tell` meets its contract. Assumes nothing.
-use mathlib.Core.Path.{refl}
 use native.Mathlib.Omega.{arith}
-use Rattle.night.proofs.listing.Telling.{paged, some-page, told-each, told-other, told-page}
+use Rattle.night.proofs.listing.Telling.{told-each, told-other, told-page}
 use Rattle.night.proofs.listing.tell.Goals as goal
 
 pub returns-then-wanted-eq0 : goal.returns-then-wanted-eq0
@@ -11,6 +10,4 @@ pub returns-then-wanted-pair : goal.returns-then-wanted-pair
 returns-then-wanted-pair c = told-other _ _ _ _ _ _ _ _ (λ e. omega arith) (λ e. omega arith)
 
 pub returns : goal.returns
-returns c =
-    told-page _ _ _ _ _ _ _ _ _ (λ e. omega arith) (omega arith)
-    (paged _ _ _ _ _ _ _ (some-page _ _ _ _ _) refl c.put_page-n.ensures c.front.ensures c.write.ensures)
+returns c = told-page _ _ _ _ _ _ _ _ _ (λ e. omega arith) (omega arith) c.tell_page.ensures

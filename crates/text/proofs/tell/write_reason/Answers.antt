@@ -24,3 +24,8 @@ pub returns-in-TooLong : goal.returns-in-TooLong
 unfolding told
 returns-in-TooLong c =
     rw c.in-TooLong.is (written-within _ _ _ _ _ _ c.write_bytes-in-TooLong.ensures 4132 (omega arith))
+
+pub returns-in-Other : goal.returns-in-Other
+unfolding told
+returns-in-Other c =
+    rw c.in-Other.is (written-within _ _ _ _ _ _ c.write_bytes-in-Other.ensures 4132 (omega arith))
