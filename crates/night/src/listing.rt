@@ -5,6 +5,7 @@ ghost use Rattle.door.specs.Contract.{reply_of};
 ghost use Rattle.pairs.specs.Cut.{pair_in};
 ghost use Rattle.feed.specs.Feed.{capped};
 ghost use Rattle.shown.specs.Page.{shown_page};
+ghost use Rattle.shown.specs.entries.Entry.{entry_line};
 ghost use Rattle.night.specs.listing.Tale.{Tale, on_page, told_of, differing as differing_of, tells, closing};
 ghost use Rattle.night.specs.listing.Contract.{Sends, Adds, Takes, Lists};
 
@@ -64,15 +65,12 @@ fn differing(wanted: u64, alike: bool, number: u64, n: u64) -> u64
     n
 }
 
-// Where all that differ are asked for: the line of a pair whose reply is not today's.
-// kept: likewise
+// The line of a pair. A function of its own, as `tell_page` is, also where it is compiled: what holds such a room clears it where it begins, and of
+// the pairs of a night few are told.
 #[inline(never)]
-fn tell_entry(unchanged: bool, pair: Entry<'_>, out: Stream) -> Stream
-    ensures { Sends out (told_of 0 unchanged pair.entry.number pair.entry.offset pair.entry.request.now pair.entry.reply.now pair.entry.today.now) result }
+fn tell_line(pair: Entry<'_>, out: Stream) -> Stream
+    ensures { Sends out (on_page (entry_line pair.entry.number pair.entry.offset pair.entry.request.now pair.entry.reply.now pair.entry.today.now)) result }
 {
-    if unchanged {
-        return out;
-    }
     let mut line = [0u8; PAGE];
     let n = put_entry(
         pair.number,
@@ -85,8 +83,18 @@ fn tell_entry(unchanged: bool, pair: Entry<'_>, out: Stream) -> Stream
     streams::write(out, front(&line, n))
 }
 
-// The page of a pair. A function of its own, like the one above, also where it is compiled: what holds a page clears it where it begins, and of the
-// pairs of a night few are told.
+// Where all that differ are asked for: the line of a pair whose reply is not today's.
+// kept: likewise
+fn tell_entry(unchanged: bool, pair: Entry<'_>, out: Stream) -> Stream
+    ensures { Sends out (told_of 0 unchanged pair.entry.number pair.entry.offset pair.entry.request.now pair.entry.reply.now pair.entry.today.now) result }
+{
+    if unchanged {
+        return out;
+    }
+    tell_line(pair, out)
+}
+
+// The page of a pair. A function of its own for the same reason.
 #[inline(never)]
 fn tell_page(pair: Entry<'_>, out: Stream) -> Stream
     ensures { Sends out (on_page (shown_page pair.entry.number pair.entry.offset pair.entry.request.now pair.entry.reply.now pair.entry.today.now)) result }
